@@ -1,0 +1,8 @@
+pub mod Text
+pub mod Names
+pub mod Columns
+pub mod Order
+pub mod Rows
+pub mod Bytes
+pub mod RowText
+pub mod Schemas
