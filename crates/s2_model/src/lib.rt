@@ -1,0 +1,28 @@
+//! The model of the engine: entries, statements, replies and scripts, and the definitions that say what they mean.
+#![tactic(auto)]
+
+mod entries;
+mod files;
+mod logs;
+mod outcomes;
+mod predicates;
+mod replies;
+mod scripts;
+mod statements;
+
+pub use entries::{
+    Change, ChangeList, Entry, EntryList, FlushNote, MergeNote, NewSegList, PlaceList, What,
+};
+pub use files::{Logged, RowFile};
+pub use logs::Log;
+pub use outcomes::{
+    MarkList, Outcome, PinList, PlacementNote, Ruling, Said, SaidList, SegNote, SegNoteList,
+    Transcript, TranscriptList,
+};
+pub use predicates::{Op, Pred};
+pub use replies::{Cell, CellList, CellTable, Refusal, Reply};
+pub use s2_value::{IdList, OffsetList, SegList, TableRows, ValueList};
+pub use scripts::{Line, LineList, Options, Script};
+pub use statements::{
+    Agg, AggList, ColPicks, Items, OrderList, RowList, Select, SetExpr, SetList, Stmt,
+};
