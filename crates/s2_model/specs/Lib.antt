@@ -1,3 +1,6 @@
 pub mod Defaults
 pub mod Files
+pub mod History
 pub mod Limits
+pub mod Rows
+pub mod Table
