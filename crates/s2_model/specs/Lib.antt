@@ -1,6 +1,9 @@
+pub mod Answer
 pub mod Defaults
 pub mod Files
+pub mod Held
 pub mod History
 pub mod Limits
 pub mod Rows
 pub mod Table
+pub mod Verdict
