@@ -1,6 +1,5 @@
 -- Which calls of an object in memory fail.
-use Rattle.std.specs.Prelude.{◌≡◌, ℕ, Bool, List, Contains, if◌then◌else◌}
-use Rattle.std.specs.Coded.{Coded, code_by, coded×, coded_ℕ, coded_list}
+use Rattle.std.specs.Prelude.{ℕ, Bool, List, Contains, if◌then◌else◌}
 use Rattle.s2_outside.specs.Count.{raised}
 
 -- the numbers, from 1, of the calls that are to fail, the number of the last call, and how many calls failed

@@ -6,6 +6,8 @@ mod calls;
 mod sinks;
 mod sources;
 mod streams;
+#[cfg(test)]
+mod tests;
 
 pub use sinks::{MemSink, Sink};
 pub use sources::{Failed, MemSource, Source};

@@ -39,6 +39,7 @@ pub trait Source {
         // A fault takes nothing, and has its cause in the count.
         ensures failed { OnErr result (Rose (faults self.old) (faults self.new)) }
         ensures kept { OnErr result (Keeps (left self.old) (left self.new)) }
+        ensures unfilled { OnErr result (buf.new ≡ buf.old) }
         ensures later { faults self.old ≤ faults self.new };
 }
 
@@ -101,6 +102,7 @@ impl Source for MemSource {
         ensures end { IfOk result (λ n. n ≡ 0 → 0 < length buf.new → IsAtEnd (Some self.new.left)) }
         ensures failed { OnErr result (Rose self.old.calls.faults self.new.calls.faults) }
         ensures kept { OnErr result (Keeps (Some self.old.left) (Some self.new.left)) }
+        ensures unfilled { OnErr result (buf.new ≡ buf.old) }
         ensures later { self.old.calls.faults ≤ self.new.calls.faults }
 
         // It fails exactly at the chosen calls, and gives no less than it can.

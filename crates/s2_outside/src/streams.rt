@@ -58,16 +58,13 @@ const PIECE: usize = 65_536;
 
 /// Reads the source to its end, or until more than `limit` bytes have come. After an `Err` a front
 /// of the input is gone.
-pub fn read_all<S: Source>(
-    alloc: Global,
-    src: &mut S,
-    limit: usize,
-) -> Result<Vec<u8>, ReadStop>
+pub fn read_all<S: Source>(alloc: Global, src: &mut S, limit: usize) -> Result<Vec<u8>, ReadStop>
     ensures whole { IfOk result (λ text. Told (S.left src.old) (λ input. text.items ≡ input)) }
     ensures end { OnOk result (Told (S.left src.old) (λ _. S.left src.new ≡ Some [])) }
     ensures within { IfOk result (λ text. vec_len text ≤ limit) }
 
-    ensures too_long { IsErrOf result ReadStop.TooLong → Told (S.left src.old) (λ input. limit < length input) }
+    ensures too_long { IsErrOf result ReadStop.TooLong
+        → Told (S.left src.old) (λ input. limit < length input) }
     ensures failed { IsErrOf result ReadStop.Failed → Rose (S.faults src.old) (S.faults src.new) }
     ensures later { S.faults src.old ≤ S.faults src.new }
 {
@@ -82,6 +79,7 @@ pub fn read_all<S: Source>(
     Ok(text)
 }
 
+/// A buffer for one read.
 fn room_for_piece(alloc: Global) -> Result<Vec<u8>, Memory>
     ensures { IfOk result (λ room. 0 < vec_len room) }
 {
@@ -114,7 +112,8 @@ fn read_piece<S: Source>(
 /// Writes all of the bytes. A fault leaves a front of them written.
 pub fn write_all<W: Sink>(out: &mut W, bytes: &[u8]) -> Result<(), Failed>
     ensures whole { OnOk result (Appends (W.taken out.old) (W.taken out.new) bytes.now) }
-    ensures front { OnErr result ((n : ℕ) × (n < length bytes.now) × Appends (W.taken out.old) (W.taken out.new) (take n bytes.now)) }
+    ensures front { OnErr result ((n : ℕ) × (n < length bytes.now)
+        × Appends (W.taken out.old) (W.taken out.new) (take n bytes.now)) }
     ensures failed { OnErr result (Rose (W.faults out.old) (W.faults out.new)) }
     ensures later { W.faults out.old ≤ W.faults out.new }
 {
