@@ -1,0 +1,4 @@
+pub mod Told
+pub mod Count
+pub mod Calls
+pub mod Streams
