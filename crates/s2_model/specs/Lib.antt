@@ -4,3 +4,7 @@ pub mod History
 pub mod Limits
 pub mod Rows
 pub mod Table
+pub mod Held
+pub mod Placement
+pub mod Plan
+pub mod Fits
