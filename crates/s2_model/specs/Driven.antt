@@ -1,12 +1,10 @@
 -- A run of the lines of a script in their order, without threads.
-use Rattle.std.specs.Prelude.{◌≡◌, ℕ, Bool, List, [], ◌∷◌, Option, Some, None, length, unwrap_or, if◌then◌else◌}
+use Rattle.std.specs.Prelude.{◌≡◌, ℕ, List, [], ◌∷◌, length, unwrap_or, if◌then◌else◌}
 use Rattle.s2_value.specs.declared.schemas.Schema.{Schema}
 use Rattle.s2_model.specs.declared.entries.What.{What}
 use Rattle.s2_model.specs.declared.scripts.Line.{Line}
-use Rattle.s2_model.specs.declared.scripts.Script.{Script}
 use Rattle.s2_model.specs.declared.outcomes.Said.{Said}
-use Rattle.s2_model.specs.declared.outcomes.Outcome.{Outcome}
-use Rattle.s2_model.specs.History.{History, history, upto, pin_of, extended, is_session}
+use Rattle.s2_model.specs.History.{History, upto, pin_of, extended}
 use Rattle.s2_model.specs.Legal.{Answers, pin_for, is_of_session}
 
 -- a line is answered at the end of the history before it, or at its session's pin

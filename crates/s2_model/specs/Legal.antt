@@ -1,8 +1,7 @@
 -- When the replies of a run are those of its history.
-use Rattle.std.specs.Prelude.{◌≡◌, ℕ, suc, ◌+◌, ◌≤◌, Bool, true, false, List, [], ◌∷◌, ◌++◌, Option, Some, None, filter, map, length, not, nat_lt, nat_le, ◌&&◌, ◌||◌, if◌then◌else◌, ◌==◌, ◌⊎◌, MatchOption, unwrap_or}
-use Rattle.std.specs.List.{list_any, filter_map, AllByRecursion}
+use Rattle.std.specs.Prelude.{◌≡◌, ℕ, ◌+◌, ◌≤◌, Bool, true, false, List, [], ◌∷◌, Option, None, filter, map, length, if◌then◌else◌, ◌==◌, ◌⊎◌, MatchOption}
+use Rattle.std.specs.List.{list_any, AllByRecursion}
 use Rattle.s2_value.specs.declared.schemas.Schema.{Schema}
-use Rattle.s2_model.specs.declared.entries.Entry.{Entry}
 use Rattle.s2_model.specs.declared.entries.What.{What}
 use Rattle.s2_model.specs.declared.statements.Stmt.{Stmt}
 use Rattle.s2_model.specs.declared.statements.Stmt.TheVariants.{Insert, Update, Delete, Select, Begin, BeginReadOnly, Commit, Rollback}
@@ -12,11 +11,11 @@ use Rattle.s2_model.specs.declared.replies.Refusal.TheVariants.{Memory}
 use Rattle.s2_model.specs.declared.scripts.Line.{Line}
 use Rattle.s2_model.specs.declared.scripts.Script.{Script}
 use Rattle.s2_model.specs.declared.outcomes.Said.{Said}
-use Rattle.s2_model.specs.declared.outcomes.Transcript.{Transcript}
 use Rattle.s2_model.specs.declared.outcomes.Outcome.{Outcome}
 use Rattle.s2_model.specs.History.{History, history, upto, pin_of, own, extended, is_session}
 use Rattle.s2_model.specs.Fits.{AllFit}
-use Rattle.s2_model.specs.Verdict.{verdict, sessions}
+use Rattle.s2_model.specs.Held.{sessions}
+use Rattle.s2_model.specs.Verdict.{verdict}
 
 -- the statements whose replies are verdicts
 abbrev pub has_verdict : Stmt → Bool

@@ -1,9 +1,15 @@
 pub mod Answer
 pub mod Defaults
+pub mod Driven
 pub mod Files
+pub mod Fits
 pub mod Held
 pub mod History
+pub mod Legal
 pub mod Limits
+pub mod OutputText
+pub mod Placement
+pub mod Plan
 pub mod Rows
 pub mod Table
 pub mod Verdict

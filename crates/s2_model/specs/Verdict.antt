@@ -1,7 +1,7 @@
 -- The verdict on a statement: its reply, and the entries that it makes.
-use Rattle.std.specs.Prelude.{ℕ, suc, ◌+◌, Bool, true, false, List, [], ◌∷◌, ◌++◌, Option, Some, None, filter, map, length, not, nat_lt, nat_le, ◌&&◌, ◌||◌, if◌then◌else◌, ◌==◌, is_some, is_none, option_and_then, unwrap_or}
+use Rattle.std.specs.Prelude.{ℕ, suc, Bool, List, [], ◌∷◌, Option, Some, None, filter, map, length, not, nat_lt, ◌&&◌, if◌then◌else◌, ◌==◌, is_some, is_none, unwrap_or}
 use Rattle.std.specs.Option.{option_map, option_or}
-use Rattle.std.specs.List.{list_any, find, filter_map}
+use Rattle.std.specs.List.{list_any, find}
 use Rattle.s2_value.specs.declared.values.Value.{Value}
 use Rattle.s2_value.specs.declared.schemas.Schema.{Schema}
 use Rattle.s2_value.specs.Order.{row_eq}
@@ -10,7 +10,6 @@ use Rattle.s2_model.specs.declared.entries.Change.{Change}
 use Rattle.s2_model.specs.declared.entries.Change.TheVariants.{Put, Drop}
 use Rattle.s2_model.specs.declared.entries.What.{What}
 use Rattle.s2_model.specs.declared.entries.What.TheVariants as what
-use Rattle.s2_model.specs.declared.predicates.Pred.{Pred}
 use Rattle.s2_model.specs.declared.statements.SetExpr.{SetExpr}
 use Rattle.s2_model.specs.declared.statements.Stmt.{Stmt}
 use Rattle.s2_model.specs.declared.statements.Stmt.TheVariants.{Insert, Update, Delete, Select, Begin, BeginReadOnly, Commit, Rollback}
@@ -18,11 +17,11 @@ use Rattle.s2_model.specs.declared.replies.Reply.{Reply}
 use Rattle.s2_model.specs.declared.replies.Reply.TheVariants.{Changed, Done, Rows, Refused, Nothing}
 use Rattle.s2_model.specs.declared.replies.Refusal.{Refusal}
 use Rattle.s2_model.specs.declared.replies.Refusal.TheVariants as refusal
-use Rattle.s2_model.specs.Table.{Table, RowOf, apply, number_of}
+use Rattle.s2_model.specs.Table.{Table, RowOf, apply}
 use Rattle.s2_model.specs.History.{History, is_running, is_open, pin_of, next, view}
 use Rattle.s2_model.specs.Rows.{matches, after}
 use Rattle.s2_model.specs.Answer.{answer}
-use Rattle.s2_model.specs.Held.{holds, holds_value}
+use Rattle.s2_model.specs.Held.{holds, holds_value, sessions}
 
 -- the last length of a history at which a statement that appends is taken
 abbrev pub last_length : ℕ
@@ -31,10 +30,6 @@ last_length = 4194240
 -- the most rows that a statement inserts, updates or deletes
 abbrev pub most_rows : ℕ
 most_rows = 65536
-
--- the sessions in order
-unfoldable pub sessions : List ℕ
-sessions = 1 ∷ 2 ∷ 3 ∷ 4 ∷ 5 ∷ 6 ∷ 7 ∷ 8 ∷ 9 ∷ 10 ∷ 11 ∷ 12 ∷ 13 ∷ 14 ∷ 15 ∷ 16 ∷ []
 
 -- the first of these that has an answer
 abbrev pub first_some : {X Y : Type 0} → (X → Option Y) → List X → Option Y
