@@ -1,0 +1,242 @@
+-- A run of simple statements of session 1 in their order is legal.
+use Rattle.std.proofs.Common.{◌≡◌, ℕ, ◌+◌, ◌≤◌, Bool, true, false, cond, Option, None, List, [], ◌∷◌, ◌++◌, length, map, refl, sym, ap, subst, ◌∙◌, arith, MatchOption}
+use Rattle.std.specs.Prelude.{filter, nat_eq, nat_le, unwrap_or, ◌||◌, ◌&&◌}
+use Rattle.std.specs.List.{list_any, list_all}
+use Rattle.std.proofs.lemmas.Bool.{false≢true}
+use Rattle.std.proofs.lemmas.Bool.Decides.{nat_tests}
+use Rattle.s2_value.specs.declared.schemas.Schema.{Schema}
+use Rattle.s2_model.specs.declared.entries.Entry.{Entry}
+use Rattle.s2_model.specs.declared.entries.What.{What}
+use Rattle.s2_model.specs.declared.statements.Stmt.{Stmt}
+use Rattle.s2_model.specs.declared.scripts.Line.{Line}
+use Rattle.s2_model.specs.declared.scripts.Options.{Options}
+use Rattle.s2_model.specs.declared.scripts.Script.{Script}
+use Rattle.s2_model.specs.declared.outcomes.Said.{Said}
+use Rattle.s2_model.specs.Held.{sessions}
+use Rattle.s2_model.specs.History.{History, ◌▷◌, history, upto, pin_of, own, extended}
+use Rattle.s2_model.specs.Fits.{AllFit}
+use Rattle.s2_model.specs.Legal.{Walk, start, walked, Meets, Replies, Answers, pin_for, is_end, is_of_session, stmts_of, sessions_in}
+use Rattle.s2_model.specs.Driven.{Turn, Drives, said_by, IsRightRun, SimpleRunsAreRight, AreSimple, one_transcript, are_of_sessions}
+use Rattle.s2_model.proofs.Timestamps.{upto_all, upto-upto, upto-extended, length-extended}
+use Rattle.s2_model.proofs.Simple.{Alone, made as made_by, alone_after, fit_after}
+
+-- one more line
+pub Drives-more : (schema : Schema) (H mid : History) (ls : List Line) (ds : List Said) (l : Line) (d : Said) (es : List What)
+    → Drives schema H ls ds mid → Turn schema mid l d es → Drives schema H (ls ++ l ∷ []) (ds ++ d ∷ []) (extended l.session es mid)
+Drives-more schema H mid [] [] l d es run turn = (es, subst (λ h. Turn schema h l d es) run turn, ap (extended l.session es) run)
+Drives-more schema H mid [] (c ∷ ds) l d es run turn = absurd run
+Drives-more schema H mid (k ∷ ls) [] l d es run turn = absurd run
+Drives-more schema H mid (k ∷ ls) (c ∷ ds) l d es run turn =
+    (run.0, run.1, Drives-more schema (extended k.session run.0 H) mid ls ds l d es run.2 turn)
+
+-- the history before a run is where the history after it begins
+pub begins : (schema : Schema) (ls : List Line) (ds : List Said) (H whole : History) → Drives schema H ls ds whole → upto (length H) whole ≡ H
+begins schema [] [] H whole run = rw run (upto_all (length H) H (omega arith))
+begins schema [] (d ∷ ds) H whole run = absurd run
+begins schema (l ∷ ls) [] H whole run = absurd run
+begins schema (l ∷ ls) (d ∷ ds) H whole run =
+    let H' = extended l.session run.0 H in
+    let longer = length-extended l.session run.0 H in
+    sym (upto-upto (length H) (length H') whole (omega arith)) ∙ ap (upto (length H)) (begins schema ls ds H' whole run.2)
+    ∙ upto-extended (length H) l.session run.0 H (omega arith) ∙ upto_all (length H) H (omega arith)
+
+pub within : (schema : Schema) (ls : List Line) (ds : List Said) (H whole : History) → Drives schema H ls ds whole → length H ≤ length whole
+within schema [] [] H whole run = omega (arith, ap length run)
+within schema [] (d ∷ ds) H whole run = absurd run
+within schema (l ∷ ls) [] H whole run = absurd run
+within schema (l ∷ ls) (d ∷ ds) H whole run =
+    omega (arith, length-extended l.session run.0 H, within schema ls ds (extended l.session run.0 H) whole run.2)
+
+-- the entries of session 1 alone
+
+both : (a b : Bool) → (a && b) ≡ true → (a ≡ true) × (b ≡ true)
+both true true e = (refl, refl)
+both true false e = absurd (false≢true e)
+both false b e = absurd (false≢true e)
+
+pub own_all : (H : History) → list_all (λ e. nat_eq e.actor 1) H ≡ true → own 1 H ≡ H
+own_all [] e = refl
+own_all (H ▷ x) e = let parts = both (nat_eq x.actor 1) (list_all (λ y. nat_eq y.actor 1) H) e in rw parts.0 (ap (λ l. x ∷ l) (own_all H parts.1))
+
+other_actor : (a k : ℕ) → nat_eq a 1 ≡ true → nat_eq k 1 ≡ false → nat_eq a k ≡ false
+other_actor a k e n = grind (arith, nat_tests)
+
+pub own_none : (k : ℕ) (H : History) → nat_eq k 1 ≡ false → list_all (λ e. nat_eq e.actor 1) H ≡ true → own k H ≡ []
+own_none k [] n e = refl
+own_none k (H ▷ x) n e = let parts = both (nat_eq x.actor 1) (list_all (λ y. nat_eq y.actor 1) H) e in rw (other_actor x.actor k parts.0 n) (own_none k H n parts.1)
+
+-- replies one after another
+
+no_pin : (stmt : Stmt) → pin_for None stmt ≡ None
+no_pin stmt = elim (is_end stmt) as (λ b. cond {A = Option ℕ} b None None ≡ None) [ true ↦ refl | false ↦ refl ]
+
+reads_now : (H : History) (stmt : Stmt) (pin : Option ℕ) (r : ℕ) → pin ≡ None → r ≡ unwrap_or (pin_for pin stmt) (length H) → r ≡ length H
+reads_now H stmt pin r none e = e ∙ ap (λ p. unwrap_or (pin_for p stmt) (length H)) none ∙ ap (λ p. unwrap_or p (length H)) (no_pin stmt)
+
+reads_at : (whole : History) (stmt : Stmt) (pin : Option ℕ) (floor r : ℕ) → pin ≡ None → floor ≤ r → r ≤ length whole
+    → MatchOption (pin_for pin stmt) ((floor ≤ r) × (r ≤ length whole)) (λ t. r ≡ t)
+reads_at whole stmt pin floor r none low high =
+    subst (λ p. MatchOption (pin_for p stmt) ((floor ≤ r) × (r ≤ length whole)) (λ t. r ≡ t)) (sym none)
+    (subst (λ p. MatchOption p ((floor ≤ r) × (r ≤ length whole)) (λ t. r ≡ t)) (sym (no_pin stmt)) (low, high))
+
+-- a turn meets the whole history
+turn_meets : (schema : Schema) (H whole : History) (w : Walk) (stmt : Stmt) (d : Said) (es : List What) → Alone H
+    → w.floor ≡ length H → w.made ≡ H → w.faults ≡ 0 → d.r ≡ length H → Answers schema (upto d.r H) 1 stmt d.reply es
+    → upto (length H) whole ≡ H → upto (length (extended 1 es H)) whole ≡ extended 1 es H → length H ≤ length whole
+    → Meets schema whole 1 w stmt d es
+turn_meets schema H whole w stmt d es alone floor made faults now answer here there long =
+    let at : upto d.r whole ≡ H = ap (λ r. upto r whole) now ∙ here in
+    let all : upto d.r H ≡ H = upto_all d.r H (omega arith) in
+    let last : d.r + length es ≡ length (extended 1 es H) = omega (arith, length-extended 1 es H) in
+    record {
+      time = reads_at whole stmt _ w.floor d.r (ap (λ r. pin_of (upto r whole) 1) floor ∙ ap (λ h. pin_of h 1) here ∙ alone.pin) (omega arith) (omega arith);
+      earlier = ap (own 1) at ∙ own_all H alone.actors ∙ sym made;
+      stands = ap (λ r. upto r whole) last ∙ there ∙ ap (extended 1 es) (sym at);
+      answer = subst (λ h. Answers schema h 1 stmt d.reply es) (all ∙ sym at) answer;
+      faults = omega arith;
+    }
+
+-- how a run of simple lines ends
+pub record Ends (schema : Schema) (whole : History) (w : Walk) (ls : List Line) (ds : List Said) : Type 0 where
+  pub end : Walk
+  pub replies : Replies schema whole 1 w (map (λ l. l.stmt) ls) ds end
+  pub made : end.made ≡ whole
+  pub faults : end.faults ≡ 0
+  pub alone : Alone whole
+
+pub ends : (schema : Schema) (ls : List Line) (ds : List Said) (H whole : History) (w : Walk) → AreSimple schema ls → Alone H
+    → w.floor ≡ length H → w.made ≡ H → w.faults ≡ 0 → Drives schema H ls ds whole → Ends schema whole w ls ds
+ends schema [] [] H whole w simple alone floor made faults run =
+    record { end = w; replies = refl; made = made ∙ sym run; faults = faults; alone = subst Alone (sym run) alone }
+ends schema [] (d ∷ ds) H whole w simple alone floor made faults run = absurd run
+ends schema (l ∷ ls) [] H whole w simple alone floor made faults run = absurd run
+ends schema (l ∷ ls) (d ∷ ds) H whole w simple alone floor made faults run =
+    let es = run.0 in
+    let turn = run.1 in
+    let now : d.r ≡ length H = reads_now H l.stmt _ d.r (ap (pin_of H) simple.0 ∙ alone.pin) turn.time in
+    let answer = subst (λ k. Answers schema (upto d.r H) k l.stmt d.reply es) simple.0 turn.answer in
+    let all : upto d.r H ≡ H = upto_all d.r H (omega arith) in
+    let made_now = made_by schema H l.stmt d.reply es alone simple.1 (subst (λ h. Answers schema h 1 l.stmt d.reply es) all answer) in
+    let later = subst (λ k. Drives schema (extended k es H) ls ds whole) simple.0 run.2 in
+    let rest = ends schema ls ds (extended 1 es H) whole (walked 1 w d es) simple.2 (alone_after schema H es alone made_now)
+    (ap (λ r. r + length es) now ∙ sym (length-extended 1 es H)) (ap (extended 1 es) made) turn.faults later in
+    record {
+      end = rest.end;
+      replies = (
+        es,
+        turn_meets schema H whole w l.stmt d es alone floor made faults now answer
+            (begins schema (l ∷ ls) (d ∷ ds) H whole run) (begins schema ls ds (extended 1 es H) whole later) (within schema (l ∷ ls) (d ∷ ds) H whole run),
+        rest.replies,
+      );
+      made = rest.made;
+      faults = rest.faults;
+      alone = rest.alone;
+    }
+
+pub all_fit : (schema : Schema) (options : Options) (ls : List Line) (ds : List Said) (H whole : History) → AreSimple schema ls → Alone H
+    → AllFit schema options H → Drives schema H ls ds whole → AllFit schema options whole
+all_fit schema options [] [] H whole simple alone fit run = subst (AllFit schema options) (sym run) fit
+all_fit schema options [] (d ∷ ds) H whole simple alone fit run = absurd run
+all_fit schema options (l ∷ ls) [] H whole simple alone fit run = absurd run
+all_fit schema options (l ∷ ls) (d ∷ ds) H whole simple alone fit run =
+    let es = run.0 in
+    let turn = run.1 in
+    let now : d.r ≡ length H = reads_now H l.stmt _ d.r (ap (pin_of H) simple.0 ∙ alone.pin) turn.time in
+    let answer = subst (λ k. Answers schema (upto d.r H) k l.stmt d.reply es) simple.0 turn.answer in
+    let all : upto d.r H ≡ H = upto_all d.r H (omega arith) in
+    let made_now = made_by schema H l.stmt d.reply es alone simple.1 (subst (λ h. Answers schema h 1 l.stmt d.reply es) all answer) in
+    all_fit schema options ls ds (extended 1 es H) whole simple.2 (alone_after schema H es alone made_now)
+    (fit_after schema options H es fit made_now) (subst (λ k. Drives schema (extended k es H) ls ds whole) simple.0 run.2)
+
+-- who has a line
+
+none_of : (schema : Schema) (k : ℕ) (ls : List Line) → AreSimple schema ls → nat_eq 1 k ≡ false → list_any (is_of_session k) ls ≡ false
+none_of schema k [] simple n = refl
+none_of schema k (l ∷ ls) simple n = rw (simple.0, n) (none_of schema k ls simple.2 n)
+
+only_one : (schema : Schema) (k : ℕ) (l : Line) (ls : List Line) → AreSimple schema (l ∷ ls) → list_any (is_of_session k) (l ∷ ls) ≡ nat_eq 1 k
+only_one schema k l ls simple =
+    rw simple.0 (elim (nat_eq 1 k) as (λ b. nat_eq 1 k ≡ b → (b || list_any (is_of_session k) ls) ≡ b) [
+      | true ↦ λ e. refl
+      | false ↦ λ e. none_of schema k ls simple.2 e
+    ] refl)
+
+no_session : sessions_in [] ≡ []
+unfolding sessions
+no_session = refl
+
+first_session : filter (λ k. nat_eq 1 k) sessions ≡ 1 ∷ []
+unfolding sessions
+first_session = refl
+
+one_session : (schema : Schema) (l : Line) (ls : List Line) → AreSimple schema (l ∷ ls) → sessions_in (l ∷ ls) ≡ 1 ∷ []
+one_session schema l ls simple = ap (λ p. filter p sessions) (λ i k. only_one schema k l ls simple i) ∙ first_session
+
+all_stmts : (schema : Schema) (ls : List Line) → AreSimple schema ls → stmts_of 1 ls ≡ map (λ l. l.stmt) ls
+all_stmts schema [] simple = refl
+all_stmts schema (l ∷ ls) simple = rw simple.0 (ap (λ ss. l.stmt ∷ ss) (all_stmts schema ls simple.2))
+
+all_said : (schema : Schema) (ls : List Line) (ds : List Said) (H whole : History) → AreSimple schema ls → Drives schema H ls ds whole → said_by 1 ls ds ≡ ds
+all_said schema [] [] H whole simple run = refl
+all_said schema [] (d ∷ ds) H whole simple run = absurd run
+all_said schema (l ∷ ls) [] H whole simple run = absurd run
+all_said schema (l ∷ ls) (d ∷ ds) H whole simple run =
+    rw simple.0 (ap (λ ss. d ∷ ss) (all_said schema ls ds (extended l.session run.0 H) whole simple.2 run.2))
+
+of_sessions : (H : History) → list_all (λ e. nat_eq e.actor 1) H ≡ true → are_of_sessions H ≡ true
+of_sessions [] e = refl
+of_sessions (H ▷ x) e =
+    let parts = both (nat_eq x.actor 1) (list_all (λ y. nat_eq y.actor 1) H) e in
+    let small : nat_le x.actor 16 ≡ true = grind (arith, nat_tests, parts.0) in
+    rw small (of_sessions H parts.1)
+
+turned_round : (k : ℕ) → nat_eq 1 k ≡ false → nat_eq k 1 ≡ false
+turned_round k e = grind (arith, nat_tests)
+
+alone_at_first : Alone []
+alone_at_first = record { pin = refl; idle = refl; actors = refl }
+
+right_by : (script : Script) (entries : List Entry) (ls : List Line) (ds : List Said) → script.lines ≡ ls → AreSimple script.schema ls
+    → Drives script.schema [] ls ds (history entries) → IsRightRun script (record { history = entries; transcripts = one_transcript ds })
+right_by script entries [] [] lines simple run = record {
+  legal = record {
+    fits = subst (AllFit script.schema script.options) (sym run) tt;
+    sessions_are = sym (ap sessions_in lines ∙ no_session);
+    each = tt;
+    silent = λ k s n. ap (own k) run;
+  };
+  driven = record { saids = []; drives = subst (λ l. Drives script.schema [] l [] (history entries)) (sym lines) run; said = tt; uncounted = tt };
+  actors = ap are_of_sessions run;
+}
+right_by script entries [] (d ∷ ds) lines simple run = absurd run
+right_by script entries (l ∷ ls) [] lines simple run = absurd run
+right_by script entries (l ∷ ls) (d ∷ ds) lines simple run =
+    let schema = script.schema in
+    let whole = history entries in
+    let e = ends schema (l ∷ ls) (d ∷ ds) [] whole start simple alone_at_first refl refl refl run in
+    record {
+      legal = record {
+        fits = all_fit schema script.options (l ∷ ls) (d ∷ ds) [] whole simple alone_at_first tt run;
+        sessions_are = sym (ap sessions_in lines ∙ one_session schema l ls simple);
+        each = (
+          record {
+            end = e.end;
+            replies = subst (λ ss. Replies schema whole 1 start ss (d ∷ ds) e.end) (sym (ap (stmts_of 1) lines ∙ all_stmts schema (l ∷ ls) simple)) e.replies;
+            counted = omega (arith, e.faults);
+            complete = own_all whole e.alone.actors ∙ sym e.made;
+          },
+          tt,
+        );
+        silent = λ k s n. own_none k whole (turned_round k (sym (only_one schema k l ls simple) ∙ sym (ap (list_any (is_of_session k)) lines) ∙ n)) e.alone.actors;
+      };
+      driven = record {
+        saids = d ∷ ds;
+        drives = subst (λ x. Drives schema [] x (d ∷ ds) whole) (sym lines) run;
+        said = (sym (ap (λ x. said_by 1 x (d ∷ ds)) lines ∙ all_said schema (l ∷ ls) (d ∷ ds) [] whole simple run), tt);
+        uncounted = (refl, tt);
+      };
+      actors = of_sessions whole e.alone.actors;
+    }
+
+pub simple_runs : SimpleRunsAreRight
+simple_runs script entries saids simple run = right_by script entries script.lines saids refl simple run

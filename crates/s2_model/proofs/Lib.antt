@@ -1,0 +1,4 @@
+pub mod Timestamps
+pub mod Inserts
+pub mod Simple
+pub mod InOrder
