@@ -9,6 +9,8 @@ mod names;
 mod order;
 mod printing;
 mod schemas;
+#[cfg(test)]
+mod tests;
 mod texts;
 mod values;
 
