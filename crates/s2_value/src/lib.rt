@@ -19,7 +19,7 @@ pub use hashing::key_hash;
 pub use laws::{equal_rows_are_one, equal_values_are_one, rows_are_ordered, values_are_ordered};
 pub use lists::{Duplicate, Seq};
 pub use names::{Digest, Name};
-pub use printing::print_row;
+pub use printing::{print_row, print_text};
 pub use schemas::{Col, ColDefs, KeyList, Schema, are_within_limits};
 pub use texts::{Txt, TxtErr, are_text_bytes};
 pub use values::{ColType, Value};

@@ -98,3 +98,16 @@ pub fn print_row(row: &Row, out: &mut Vec<u8>) -> Result<(), Memory>
     }
     written
 }
+
+/// Writes a text between quotes at the end of `out`, each quote in it doubled. After want of memory `out` is as it was.
+pub fn print_text(bytes: &[u8], out: &mut Vec<u8>) -> Result<(), Memory>
+    ensures ok { OnOk result (out.new.items ≡ out.old.items ++ text_text bytes.now) }
+    ensures err { OnErr result (out.new.items ≡ out.old.items) }
+{
+    let start = out.len();
+    let written = put_text(out, bytes);
+    if written.is_err() {
+        out.truncate(start);
+    }
+    written
+}

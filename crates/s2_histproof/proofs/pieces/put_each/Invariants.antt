@@ -1,0 +1,7 @@
+use Rattle.std.proofs.Common.{◌≡◌, ◌++◌, take}
+use Rattle.std.specs.List.{flat_map}
+use Rattle.s2_histproof.proofs.pieces.put_each.Given as goal
+
+abbrev pub invariant-loop-item : goal.invariant-loop-item
+invariant-loop-item g l =
+    l.out.items ≡ l.fn.out.items ++ flat_map g.T.Printed.text (take l.item-index l.items)

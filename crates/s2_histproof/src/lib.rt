@@ -1,0 +1,14 @@
+//! The text of what a run gives: replies, entries, sessions and the whole outcome.
+#![tactic(auto)]
+
+mod entries;
+mod outcomes;
+mod pieces;
+mod refusals;
+mod replies;
+#[cfg(test)]
+mod tests;
+
+pub use outcomes::print_output;
+pub use s2_model::{Outcome, Said, Transcript};
+pub use s2_value::Memory;

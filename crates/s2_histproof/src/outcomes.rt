@@ -1,0 +1,55 @@
+//! How an outcome is written: what each session said, the history, and the end.
+ghost use Rattle.std.specs.Prelude.{◌≡◌, ◌++◌, OnOk, IfOk};
+ghost use Rattle.s2_model.specs.OutputText.{said_text, transcript_text, history_text, output_text};
+
+use crate::pieces::{Printed, put, put_each, put_field, put_number, put_pair, put_word};
+use crate::replies::put_reply;
+use s2_model::{Entry, Outcome, Said, Transcript};
+use s2_value::Memory;
+use std::alloc::Global;
+
+/// A reply stands after its timestamp and its fault count.
+impl Printed for Said {
+    ghost text = { said_text };
+
+    fn put(&self, out: &mut Vec<u8>) -> Result<(), Memory> {
+        put_number(out, self.r)?;
+        put_field(out, self.faults)?;
+        put(out, b" ")?;
+        put_reply(out, &self.reply)
+    }
+}
+
+/// A session's number, how many replies it has and its last fault count; then its replies.
+impl Printed for Transcript {
+    ghost text = { transcript_text };
+
+    fn put(&self, out: &mut Vec<u8>) -> Result<(), Memory> {
+        put_word(out, b"SESSION", u64::from(self.session))?;
+        put_pair(out, self.said.len() as u64, self.faults)?;
+        put(out, b"\n")?;
+        put_each(out, self.said.as_slice())
+    }
+}
+
+/// The text of an outcome. For each session: `SESSION`, its number, how many statements it has and
+/// its last fault count, then its replies, each after its timestamp and its fault count; an answer's
+/// rows follow their reply, a line each. Then `HISTORY`, how many entries there are, and a line for
+/// each with its actor. Then `END`. Each line ends with a line feed. The `Err` is want of memory.
+pub fn print_output(alloc: Global, run: &Outcome) -> Result<Vec<u8>, Memory>
+    ensures { IfOk result (λ text. text.items ≡ output_text run.now) }
+{
+    let mut out = Vec::new(alloc);
+    put_each(&mut out, run.transcripts.as_slice())?;
+    put_history(&mut out, run.history.as_slice())?;
+    put(&mut out, b"END\n")?;
+    Ok(out)
+}
+
+fn put_history(out: &mut Vec<u8>, entries: &[Entry]) -> Result<(), Memory>
+    ensures { OnOk result (out.new.items ≡ out.old.items ++ history_text entries.now) }
+{
+    put_word(out, b"HISTORY", entries.len() as u64)?;
+    put(out, b"\n")?;
+    put_each(out, entries)
+}
