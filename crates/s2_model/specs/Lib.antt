@@ -1,4 +1,5 @@
 pub mod Answer
+pub mod Background
 pub mod Defaults
 pub mod Driven
 pub mod Files
@@ -7,6 +8,7 @@ pub mod Held
 pub mod History
 pub mod Legal
 pub mod Limits
+pub mod Needed
 pub mod OutputText
 pub mod Placement
 pub mod Plan
