@@ -2,3 +2,9 @@ pub mod Timestamps
 pub mod Inserts
 pub mod Simple
 pub mod InOrder
+pub mod Tables
+pub mod Lists
+pub mod Histories
+pub mod Times
+pub mod Invariant
+pub mod Kept

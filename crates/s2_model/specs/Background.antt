@@ -16,7 +16,7 @@ use Rattle.s2_model.specs.History.{History, upto, pin_of}
 use Rattle.s2_model.specs.Placement.{Segment, placement, is_in_use}
 use Rattle.s2_model.specs.Plan.{takes, can_take, plan, writes, row_ids, cut, numbered}
 use Rattle.s2_model.specs.Fits.{next_segment, last_segment, offsets_where, carried_places, are_in_use, is_unstored, droppable, least_needed}
-use Rattle.s2_model.specs.Needed.{most_entries}
+use Rattle.s2_model.specs.Verdict.{last_length}
 
 -- a reply and its entries
 abbrev pub Answers : Reply → List What → Reply → List What → Type 0
@@ -24,7 +24,7 @@ Answers reply whats said made = (said ≡ reply) × (made ≡ whats)
 
 -- the history has no room for another entry of this kind
 abbrev pub is_full : History → Bool
-is_full H = nat_lt most_entries (length H)
+is_full H = nat_lt last_length (length H)
 
 -- the greatest number of a segment
 abbrev pub most_segments : ℕ

@@ -26,6 +26,7 @@ use Rattle.s2_model.specs.Rows.{value_at, matches, after}
 use Rattle.s2_model.specs.History.{History, ◌▷◌, upto, pin_of, view}
 use Rattle.s2_model.specs.Placement.{Segment, placement, rows_of, contains_number, is_alive, is_unmarked}
 use Rattle.s2_model.specs.Plan.{plan}
+use Rattle.s2_model.specs.Verdict.{last_length}
 
 -- zone values: the least and the greatest value of each column
 
@@ -204,16 +205,13 @@ counts_as_evicted whole r k n =
 
 -- faults of a statement's own port
 
--- the longest history at which LogFull doesn't come
-abbrev pub most_entries : ℕ
-most_entries = 4194240
 
 -- neither ReadOnly nor LogFull comes before a fault of the port
 abbrev pub may_load : History → ℕ → Stmt → Bool
 may_load H k (Select select) = true
 may_load H k Merge = not (is_some (pin_of H k))
 may_load H k MergeEnd = not (is_some (pin_of H k))
-may_load H k _ = not (is_some (pin_of H k)) && nat_le (length H) most_entries
+may_load H k _ = not (is_some (pin_of H k)) && nat_le (length H) last_length
 
 -- a needed segment that is evicted at r
 abbrev pub is_missing : Schema → Options → History → ℕ → ℕ → ℕ → Stmt → ℕ → Bool

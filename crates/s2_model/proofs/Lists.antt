@@ -1,0 +1,94 @@
+-- Totals over lists, and what holds of each element.
+use Rattle.std.proofs.Common.{◌≡◌, ℕ, zero, suc, ◌+◌, ◌<◌, ◌≤◌, Bool, true, false, not, ◌&&◌, ◌||◌, cond, if◌then◌else◌, ◌==◌, List, [], ◌∷◌, ◌++◌, map, filter, length, take, drop, Option, Some, None, filter_map, flat_map, option_map, refl, sym, ap, ap₂, ◌∙◌, arith, append_assoc}
+use Rattle.std.proofs.lemmas.Bool.Decides.{nat_tests}
+use Rattle.std.proofs.lemmas.Bool.{false≢true}
+use Rattle.std.specs.List.{list_any, list_all, AllByRecursion}
+
+abbrev pub bit : Bool → ℕ
+bit b = cond b 1 0
+
+abbrev pub total : {X : Type 0} → (X → ℕ) → List X → ℕ
+total f [] = 0
+total f (x ∷ xs) = f x + total f xs
+
+abbrev pub Each : {X : Type 0} → (X → Type 0) → List X → Type 0
+Each P xs = AllByRecursion P xs
+
+pub total-append : {X : Type 0} (f : X → ℕ) (xs ys : List X) → total f (xs ++ ys) ≡ total f xs + total f ys
+total-append f [] ys = omega arith
+total-append f (x ∷ xs) ys = omega (arith, total-append f xs ys)
+
+pub total-map : {X Y : Type 0} (f : Y → ℕ) (h : X → Y) (xs : List X) → total f (map h xs) ≡ total (λ x. f (h x)) xs
+total-map f h [] = refl
+total-map f h (x ∷ xs) = ap (λ n. f (h x) + n) (total-map f h xs)
+
+pub total_same : {X : Type 0} (f g : X → ℕ) (xs : List X) → Each (λ x. f x ≡ g x) xs → total f xs ≡ total g xs
+total_same f g [] e = refl
+total_same f g (x ∷ xs) e = ap₂ ◌+◌ e.0 (total_same f g xs e.1)
+
+pub total_zero : {X : Type 0} (f : X → ℕ) (xs : List X) → Each (λ x. f x ≡ 0) xs → total f xs ≡ 0
+total_zero f [] e = refl
+total_zero f (x ∷ xs) e = omega (arith, e.0, total_zero f xs e.1)
+
+pub total_part : {X : Type 0} (f g h : X → ℕ) (xs : List X) → Each (λ x. f x ≡ g x + h x) xs → total f xs ≡ total g xs + total h xs
+total_part f g h [] e = refl
+total_part f g h (x ∷ xs) e = omega (arith, e.0, total_part f g h xs e.1)
+
+pub total-filter : {X : Type 0} (f : X → ℕ) (p : X → Bool) (xs : List X) → total f (filter p xs) ≡ total (λ x. cond (p x) (f x) 0) xs
+total-filter f p [] = refl
+total-filter f p (x ∷ xs) =
+    elim (p x) as (λ b. total f (cond b (x ∷ filter p xs) (filter p xs)) ≡ cond b (f x) 0 + total (λ y. cond (p y) (f y) 0) xs) [
+      | true ↦ ap (λ n. f x + n) (total-filter f p xs)
+      | false ↦ omega (arith, total-filter f p xs)
+    ]
+
+pub each_all : {X : Type 0} (P : X → Type 0) (all : (x : X) → P x) (xs : List X) → Each P xs
+each_all P all [] = tt
+each_all P all (x ∷ xs) = (all x, each_all P all xs)
+
+pub each-append : {X : Type 0} (P : X → Type 0) (xs ys : List X) → Each P xs → Each P ys → Each P (xs ++ ys)
+each-append P [] ys a b = b
+each-append P (x ∷ xs) ys a b = (a.0, each-append P xs ys a.1 b)
+
+pub each-map : {X Y : Type 0} (P : X → Type 0) (Q : Y → Type 0) (h : X → Y) (step : (x : X) → P x → Q (h x)) (xs : List X) → Each P xs → Each Q (map h xs)
+each-map P Q h step [] a = tt
+each-map P Q h step (x ∷ xs) a = (step x a.0, each-map P Q h step xs a.1)
+
+pub each_weaker : {X : Type 0} (P Q : X → Type 0) (step : (x : X) → P x → Q x) (xs : List X) → Each P xs → Each Q xs
+each_weaker P Q step [] a = tt
+each_weaker P Q step (x ∷ xs) a = (step x a.0, each_weaker P Q step xs a.1)
+
+pub each_both : {X : Type 0} (P Q R : X → Type 0) (step : (x : X) → P x → Q x → R x) (xs : List X) → Each P xs → Each Q xs → Each R xs
+each_both P Q R step [] a b = tt
+each_both P Q R step (x ∷ xs) a b = (step x a.0 b.0, each_both P Q R step xs a.1 b.1)
+
+pub each-filter : {X : Type 0} (P : X → Type 0) (p : X → Bool) (xs : List X) → Each P xs → Each P (filter p xs)
+each-filter P p [] a = tt
+each-filter P p (x ∷ xs) a =
+    elim (p x) as (λ b. Each P (cond b (x ∷ filter p xs) (filter p xs))) [
+      | true ↦ (a.0, each-filter P p xs a.1)
+      | false ↦ each-filter P p xs a.1
+    ]
+
+-- what passes the filter passes the test
+pub each_passes : {X : Type 0} (p : X → Bool) (xs : List X) → Each (λ x. p x ≡ true) (filter p xs)
+each_passes p [] = tt
+each_passes p (x ∷ xs) =
+    (elim (p x) as (λ b. p x ≡ b → Each (λ y. p y ≡ true) (cond b (x ∷ filter p xs) (filter p xs))) [
+      | true ↦ λ e. (e, each_passes p xs)
+      | false ↦ λ e. each_passes p xs
+    ]) refl
+
+pub each-take : {X : Type 0} (P : X → Type 0) (n : ℕ) (xs : List X) → Each P xs → Each P (take n xs)
+each-take P n [] a = elim n as (λ m. Each P (take m [])) [ zero ↦ tt | suc m ↦ tt ]
+each-take P zero (x ∷ xs) a = tt
+each-take P (suc n) (x ∷ xs) a = (a.0, each-take P n xs a.1)
+
+-- the element that passes has what each has
+pub each_any : {X : Type 0} (P : X → Type 0) (p : X → Bool) (Q : Type 0) (step : (x : X) → P x → p x ≡ true → Q) (xs : List X) → Each P xs → list_any p xs ≡ true → Q
+each_any P p Q step [] a e = absurd (false≢true e)
+each_any P p Q step (x ∷ xs) a e = go (p x) refl (each_any P p Q step xs a.1) e
+  where
+    go : (b : Bool) → p x ≡ b → (list_any p xs ≡ true → Q) → (b || list_any p xs) ≡ true → Q
+    go true h ih f = step x a.0 h
+    go false h ih f = ih f
