@@ -10,7 +10,8 @@ use Rattle.s2_model.specs.Held.{holds}
 use Rattle.s2_model.specs.Placement.{Version, Spot, Segment, Placement, placement, lives, is_done, is_visible, is_alive, is_unmarked, is_living, is_in_use, is_free, set_at, set_mark, end_version, end_segment}
 use Rattle.s2_model.specs.Fits.{last_segment}
 use Rattle.s2_model.proofs.Lists.{bit, total, Each, total_same, each_weaker}
-use Rattle.s2_model.proofs.Histories.{upto_old, upto_all, upto_whole, length-upto, upto-upto}
+use Rattle.s2_model.proofs.Timestamps.{upto_all, upto_past}
+use Rattle.s2_model.proofs.Histories.{upto_whole}
 use Rattle.s2_model.proofs.Times.{IsBy, by_more, by_set, done_by, done_set_before, done_set_now, VersionBy, SegmentBy, PlacedBy, visible_living, alive_in_use, unmarked_free, count_at, count_now, count_at_now}
 
 -- one where there is a row, else none
@@ -62,7 +63,7 @@ pub record IsSound (H : History) : Type 0 where
 -- the content after an entry, at a timestamp before it and at its own
 
 pub row_then_old : (H : History) (e : Entry) (r n : ℕ) → r ≤ length H → row_then (H ▷ e) r n ≡ row_then H r n
-row_then_old H e r n le = ap (λ G. row_at (state G) n) (upto_old H e r le)
+row_then_old H e r n le = ap (λ G. row_at (state G) n) (upto_past r H e le)
 
 pub row_then_now : (H : History) (n : ℕ) → row_then H (length H) n ≡ row_at (state H) n
 row_then_now H n = ap (λ G. row_at (state G) n) (upto_whole H)
@@ -88,7 +89,7 @@ version_tells_kept H e v by same tells r le seen =
         (λ new.
             let living : is_living v ≡ true = sym (visible_living (length H) r v by (omega arith)) ∙ seen in
             let counted : is_visible (length H) v ≡ true = visible_living (length H) (length H) v by (omega arith) ∙ living in
-            ap (λ G. row_at (state G) v.id) (upto_all (H ▷ e) r (omega arith))
+            ap (λ G. row_at (state G) v.id) (upto_all r (H ▷ e) (omega arith))
             ∙ same living ∙ sym (row_then_now H v.id) ∙ tells (length H) (omega arith) counted)
 
 -- a version that the entry ends
@@ -115,7 +116,7 @@ version_tells_new H e v at has r le seen =
         (λ old.
             let both = and_parts (nat_le v.begin r) (not (is_done r v.stop)) seen in
             absurd (false≢true (sym (lt-leb v.begin r (omega (arith, at))) ∙ both.0)))
-        (λ new. ap (λ G. row_at (state G) v.id) (upto_all (H ▷ e) r (omega arith)) ∙ has)
+        (λ new. ap (λ G. row_at (state G) v.id) (upto_all r (H ▷ e) (omega arith)) ∙ has)
 
 lasts_old : (H : History) (e : Entry) (b n r : ℕ) → r ≤ length H → Lasts H b n r → Lasts (H ▷ e) b n r
 lasts_old H e b n r le lasts q from to =
@@ -128,7 +129,7 @@ lasts_new H e b n le same lasts q from to =
     old_or_new H e q to (row_then (H ▷ e) q n ≡ row_then (H ▷ e) b n)
         (λ old. row_then_old H e q n old ∙ lasts q from old ∙ sym (row_then_old H e b n le))
         (λ new.
-            ap (λ G. row_at (state G) n) (upto_all (H ▷ e) q (omega arith))
+            ap (λ G. row_at (state G) n) (upto_all q (H ▷ e) (omega arith))
             ∙ same ∙ sym (row_then_now H n) ∙ lasts (length H) le (omega arith) ∙ sym (row_then_old H e b n le))
 
 -- a place that stays, where the row of its number is the same as before if it still counts
@@ -208,6 +209,6 @@ placed_step H e P P' w step = record {
     numbers = λ r n from to. old_or_new H e r to (count_at r n P' ≡ size (row_then (H ▷ e) r n))
         (λ old. step.old r n from old ∙ w.numbers r n (omega (arith, step.horizon_rises)) old ∙ ap size (sym (row_then_old H e r n old)))
         (λ new. count_at_now (suc (length H)) r n (omega arith) P' step.by ∙ step.now n
-            ∙ ap (λ G. size (row_at (state G) n)) (sym (upto_all (H ▷ e) r (omega arith))));
+            ∙ ap (λ G. size (row_at (state G) n)) (sym (upto_all r (H ▷ e) (omega arith))));
     horizon_by = step.horizon_by;
     named = step.named }

@@ -8,3 +8,6 @@ pub mod Histories
 pub mod Times
 pub mod Invariant
 pub mod Kept
+pub mod Holders
+pub mod WriteStep
+pub mod CommitStep

@@ -92,3 +92,28 @@ each_any P p Q step (x ∷ xs) a e = go (p x) refl (each_any P p Q step xs a.1) 
     go : (b : Bool) → p x ≡ b → (list_any p xs ≡ true → Q) → (b || list_any p xs) ≡ true → Q
     go true h ih f = step x a.0 h
     go false h ih f = ih f
+
+-- a total is no less than one of its parts
+pub any_counts : {X : Type 0} (p : X → Bool) (xs : List X) → list_any p xs ≡ true → 1 ≤ total (λ x. bit (p x)) xs
+any_counts p [] e = absurd (false≢true e)
+any_counts p (x ∷ xs) e = go (p x) (any_counts p xs) e
+  where
+    go : (b : Bool) → (list_any p xs ≡ true → 1 ≤ total (λ y. bit (p y)) xs) → (b || list_any p xs) ≡ true → 1 ≤ bit b + total (λ y. bit (p y)) xs
+    go true ih f = omega arith
+    go false ih f = omega (arith, ih f)
+
+pub counts_any : {X : Type 0} (p : X → Bool) (xs : List X) → 1 ≤ total (λ x. bit (p x)) xs → list_any p xs ≡ true
+counts_any p [] le = absurd (omega arith)
+counts_any p (x ∷ xs) le = go (p x) (counts_any p xs) le
+  where
+    go : (b : Bool) → (1 ≤ total (λ y. bit (p y)) xs → list_any p xs ≡ true) → 1 ≤ bit b + total (λ y. bit (p y)) xs → (b || list_any p xs) ≡ true
+    go true ih f = refl
+    go false ih f = ih (omega arith)
+
+-- each part is no more than the whole
+pub each_part : {X : Type 0} (f : ℕ → X → ℕ) (xs : List X) → Each (λ x. (n : ℕ) → f n x ≤ total (f n) xs) xs
+each_part f [] = tt
+each_part f (x ∷ xs) =
+    (λ n. omega arith,
+     each_weaker (λ y. (n : ℕ) → f n y ≤ total (f n) xs) (λ y. (n : ℕ) → f n y ≤ f n x + total (f n) xs)
+        (λ y le n. omega (arith, le n)) xs (each_part f xs))

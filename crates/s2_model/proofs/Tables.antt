@@ -1,7 +1,7 @@
 -- Rows of a table after a change, and rows of a list of changes.
 use Rattle.std.proofs.Common.{◌≡◌, ℕ, suc, ◌+◌, ◌<◌, ◌≤◌, Bool, true, false, not, ◌&&◌, ◌||◌, cond, if◌then◌else◌, ◌==◌, nat_lt, nat_le, List, [], ◌∷◌, ◌++◌, Option, Some, None, is_some, filter, refl, sym, ap, ◌∙◌, arith}
 use Rattle.std.proofs.lemmas.Bool.Decides.{nat_tests}
-use Rattle.std.proofs.lemmas.Bool.{false≢true}
+use Rattle.std.proofs.lemmas.Bool.{false≢true, ltb-true, eqb-true, eq-eqb, or_left, or_right}
 use Rattle.std.specs.List.{list_any}
 use Rattle.s2_model.specs.declared.entries.Change.{Change}
 use Rattle.s2_model.specs.declared.entries.Change.TheVariants.{Put, Drop}
@@ -46,3 +46,42 @@ row_after_untouched was (c ∷ changes) m e =
 
 pub row_at_untouched : (rows : Table) (changes : List Change) (m : ℕ) → touches changes m ≡ false → row_at (apply rows changes) m ≡ row_at rows m
 row_at_untouched rows changes m e = row_at-apply rows changes m ∙ row_after_untouched (row_at rows m) changes m e
+
+-- the order of the numbers
+
+pub above_low : (low : ℕ) (rows : Table) (n : ℕ) → rises_above low rows ≡ true → is_some (row_at rows n) ≡ true → low < n
+above_low low [] n up has = absurd (false≢true has)
+above_low low (p ∷ rows) n up has =
+    let both = parts (nat_lt low p.0) (rises_above p.0 rows) up in
+    go (p.0 == n) refl both.0 (above_low p.0 rows n both.1) has
+  where
+    parts : (a b : Bool) → cond a b false ≡ true → (a ≡ true) × (b ≡ true)
+    parts true b e = (refl, e)
+    parts false b e = absurd (false≢true e)
+    go : (b : Bool) → (p.0 == n) ≡ b → nat_lt low p.0 ≡ true → (is_some (row_at rows n) ≡ true → p.0 < n)
+        → is_some (cond b (Some p.1) (row_at rows n)) ≡ true → low < n
+    go true e lt ih h = omega (arith, ltb-true low p.0 lt, eqb-true p.0 n e)
+    go false e lt ih h = omega (arith, ltb-true low p.0 lt, ih h)
+
+pub rises_lower : (low high : ℕ) (rows : Table) → low ≤ high → rises_above high rows ≡ true → rises_above low rows ≡ true
+rises_lower low high [] le up = refl
+rises_lower low high (p ∷ rows) le up = grind (arith, nat_tests)
+
+rises-put_row : (low n : ℕ) (x : RowOf) (rows : Table) → low < n → rises_above low rows ≡ true → rises_above low (put_row n x rows) ≡ true
+rises-put_row low n x [] lt up = grind (arith, nat_tests)
+rises-put_row low n x (p ∷ rows) lt up = grind (arith, nat_tests, rises-put_row p.0 n x rows, ap (λ m. rises_above m rows))
+
+rises-drop_row : (low n : ℕ) (rows : Table) → rises_above low rows ≡ true → rises_above low (drop_row n rows) ≡ true
+rises-drop_row low n [] up = refl
+rises-drop_row low n (p ∷ rows) up = grind (arith, nat_tests, rises-drop_row p.0 n rows, rises_lower low p.0 (drop_row n rows))
+
+rises-apply_change : (rows : Table) (c : Change) → 0 < number_of c → IsTable rows → IsTable (apply_change rows c)
+rises-apply_change rows (Put n x) lt up = rises-put_row 0 n x rows lt up
+rises-apply_change rows (Drop n) lt up = rises-drop_row 0 n rows up
+
+pub rises-apply : (rows : Table) (changes : List Change) → ((n : ℕ) → touches changes n ≡ true → 1 ≤ n) → IsTable rows → IsTable (apply rows changes)
+rises-apply rows [] above up = up
+rises-apply rows (c ∷ changes) above up =
+    let first : touches (c ∷ changes) (number_of c) ≡ true = or_left _ _ (eq-eqb (number_of c) (number_of c) refl) in
+    rises-apply (apply_change rows c) changes (λ n t. above n (or_right _ _ t))
+        (rises-apply_change rows c (above (number_of c) first) up)
