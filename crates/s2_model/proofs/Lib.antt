@@ -11,3 +11,5 @@ pub mod Kept
 pub mod Holders
 pub mod WriteStep
 pub mod CommitStep
+pub mod MoveStep
+pub mod UpkeepSteps
