@@ -13,3 +13,5 @@ pub mod WriteStep
 pub mod CommitStep
 pub mod MoveStep
 pub mod UpkeepSteps
+pub mod Chosen
+pub mod FlushStep

@@ -117,3 +117,15 @@ each_part f (x ∷ xs) =
     (λ n. omega arith,
      each_weaker (λ y. (n : ℕ) → f n y ≤ total (f n) xs) (λ y. (n : ℕ) → f n y ≤ f n x + total (f n) xs)
         (λ y le n. omega (arith, le n)) xs (each_part f xs))
+
+pub any_weaker : {X : Type 0} (p q : X → Bool) → ((x : X) → p x ≡ true → q x ≡ true) → (xs : List X) → list_any p xs ≡ true → list_any q xs ≡ true
+any_weaker p q step [] e = e
+any_weaker p q step (x ∷ xs) e = go (p x) refl (any_weaker p q step xs) e
+  where
+    go : (b : Bool) → p x ≡ b → (list_any p xs ≡ true → list_any q xs ≡ true) → (b || list_any p xs) ≡ true → (q x || list_any q xs) ≡ true
+    go true f ih g = ap (λ c. c || list_any q xs) (step x f)
+    go false f ih g = last (q x) (ih g)
+      where
+        last : (c : Bool) → list_any q xs ≡ true → (c || list_any q xs) ≡ true
+        last true h = refl
+        last false h = h
