@@ -15,3 +15,4 @@ pub mod MoveStep
 pub mod UpkeepSteps
 pub mod Chosen
 pub mod FlushStep
+pub mod OldRows

@@ -129,3 +129,30 @@ any_weaker p q step (x ∷ xs) e = go (p x) refl (any_weaker p q step xs) e
         last : (c : Bool) → list_any q xs ≡ true → (c || list_any q xs) ≡ true
         last true h = refl
         last false h = h
+
+pub any-map : {X Y : Type 0} (p : Y → Bool) (q : X → Bool) (h : X → Y) → ((x : X) → p (h x) ≡ true → q x ≡ true) → (xs : List X) → list_any p (map h xs) ≡ true → list_any q xs ≡ true
+any-map p q h step [] e = e
+any-map p q h step (x ∷ xs) e = go (p (h x)) refl (any-map p q h step xs) e
+  where
+    go : (b : Bool) → p (h x) ≡ b → (list_any p (map h xs) ≡ true → list_any q xs ≡ true) → (b || list_any p (map h xs)) ≡ true → (q x || list_any q xs) ≡ true
+    go true f ih g = ap (λ c. c || list_any q xs) (step x f)
+    go false f ih g = last (q x) (ih g)
+      where
+        last : (c : Bool) → list_any q xs ≡ true → (c || list_any q xs) ≡ true
+        last true h = refl
+        last false h = h
+
+pub any-filter : {X : Type 0} (p f : X → Bool) (xs : List X) → list_any p (filter f xs) ≡ true → list_any p xs ≡ true
+any-filter p f [] e = e
+any-filter p f (x ∷ xs) e = go (f x) (p x) refl (any-filter p f xs) e
+  where
+    go : (b c : Bool) → p x ≡ c → (list_any p (filter f xs) ≡ true → list_any p xs ≡ true)
+        → list_any p (cond b (x ∷ filter f xs) (filter f xs)) ≡ true → (c || list_any p xs) ≡ true
+    go true true g ih h = refl
+    go true false g ih h = ih (sym (ap (λ d. d || list_any p (filter f xs)) g) ∙ h)
+    go false true g ih h = refl
+    go false false g ih h = ih h
+
+pub each-flat_map : {X Y : Type 0} (P : X → Type 0) (Q : Y → Type 0) (f : X → List Y) → ((x : X) → P x → Each Q (f x)) → (xs : List X) → Each P xs → Each Q (flat_map f xs)
+each-flat_map P Q f step [] a = tt
+each-flat_map P Q f step (x ∷ xs) a = each-append Q (f x) (flat_map f xs) (step x a.0) (each-flat_map P Q f step xs a.1)
