@@ -107,7 +107,7 @@ offset_later o m test (n ∷ ids) lt = go (test n) (offset_later (o + 1) m test 
     go true ih = ap (λ c. c || contains_number (offsets_from (o + 1) test ids) m) other ∙ ih
     go false ih = ih
 
-new_spots_same : (t : ℕ) (f g : ℕ → Bool) (o : ℕ) → ((p : ℕ) → o ≤ p → f p ≡ g p) → (ids : List ℕ) → new_spots t f o ids ≡ new_spots t g o ids
+pub new_spots_same : (t : ℕ) (f g : ℕ → Bool) (o : ℕ) → ((p : ℕ) → o ≤ p → f p ≡ g p) → (ids : List ℕ) → new_spots t f o ids ≡ new_spots t g o ids
 new_spots_same t f g o same [] = refl
 new_spots_same t f g o same (n ∷ ids) =
     ap₂ ◌∷◌ (ap (λ b. record { id = n; mark = cond b (Some t) None }) (same o (omega arith)))

@@ -16,3 +16,5 @@ pub mod UpkeepSteps
 pub mod Chosen
 pub mod FlushStep
 pub mod OldRows
+pub mod Merged
+pub mod MergeStep
