@@ -156,21 +156,25 @@ held_lies_nowhere H s k n held = go (is_some (row_at (state H) n)) refl
         size_none None f = refl
         size_none (Some x) f = absurd (true≢false f)
 
--- each place that is alive and unmarked is counted
-pub places_count : (segments : List Segment)
-    → Each (λ s. Each (λ x. is_in_use s ≡ true → is_free x ≡ true → 1 ≤ count_segments is_in_use is_free x.id segments) s.spots) segments
-places_count segments =
-    each_weaker (λ s. (n : ℕ) → cond (is_in_use s) (count_spots is_free n s.spots) 0 ≤ count_segments is_in_use is_free n segments)
-        (λ s. Each (λ x. is_in_use s ≡ true → is_free x ≡ true → 1 ≤ count_segments is_in_use is_free x.id segments) s.spots)
+-- each place that counts is counted
+pub places_counted : (alive : Segment → Bool) (test : Spot → Bool) (segments : List Segment)
+    → Each (λ s. Each (λ x. alive s ≡ true → test x ≡ true → 1 ≤ count_segments alive test x.id segments) s.spots) segments
+places_counted alive test segments =
+    each_weaker (λ s. (n : ℕ) → cond (alive s) (count_spots test n s.spots) 0 ≤ count_segments alive test n segments)
+        (λ s. Each (λ x. alive s ≡ true → test x ≡ true → 1 ≤ count_segments alive test x.id segments) s.spots)
         (λ s part.
-            each_weaker (λ x. (n : ℕ) → bit (x.id == n && is_free x) ≤ count_spots is_free n s.spots)
-                (λ x. is_in_use s ≡ true → is_free x ≡ true → 1 ≤ count_segments is_in_use is_free x.id segments)
+            each_weaker (λ x. (n : ℕ) → bit (x.id == n && test x) ≤ count_spots test n s.spots)
+                (λ x. alive s ≡ true → test x ≡ true → 1 ≤ count_segments alive test x.id segments)
                 (λ x le used free.
                     omega (arith, part x.id, le x.id,
-                        cond-true (is_in_use s) (count_spots is_free x.id s.spots) 0 used,
+                        cond-true (alive s) (count_spots test x.id s.spots) 0 used,
                         ap bit (and_from _ _ (eq-eqb x.id x.id refl) free)))
-                s.spots (each_part (λ n x. bit (x.id == n && is_free x)) s.spots))
-        segments (each_part (λ n s. cond (is_in_use s) (count_spots is_free n s.spots) 0) segments)
+                s.spots (each_part (λ n x. bit (x.id == n && test x)) s.spots))
+        segments (each_part (λ n s. cond (alive s) (count_spots test n s.spots) 0) segments)
+
+pub places_count : (segments : List Segment)
+    → Each (λ s. Each (λ x. is_in_use s ≡ true → is_free x ≡ true → 1 ≤ count_segments is_in_use is_free x.id segments) s.spots) segments
+places_count segments = places_counted is_in_use is_free segments
 
 -- the COMMIT
 

@@ -18,3 +18,4 @@ pub mod FlushStep
 pub mod OldRows
 pub mod Merged
 pub mod MergeStep
+pub mod Whole

@@ -6,6 +6,7 @@ pub mod Files
 pub mod Fits
 pub mod Held
 pub mod History
+pub mod Laws
 pub mod Legal
 pub mod Limits
 pub mod Needed
