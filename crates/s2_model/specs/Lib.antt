@@ -1,12 +1,15 @@
 pub mod Answer
+pub mod Background
 pub mod Defaults
 pub mod Driven
 pub mod Files
 pub mod Fits
 pub mod Held
 pub mod History
+pub mod Laws
 pub mod Legal
 pub mod Limits
+pub mod Needed
 pub mod OutputText
 pub mod Placement
 pub mod Plan

@@ -219,6 +219,21 @@ abbrev pub placement : History → Placement
 placement [] = nothing_placed
 placement (H ▷ e) = place_after e.what (length (H ▷ e)) (state H) (pending H e.actor) (placement H)
 
+-- the rows at these places, with their values in the content at b
+abbrev pub rows_at_base : History → ℕ → List Spot → Table
+rows_at_base H b spots = filter_map (λ x. option_map (λ row. (x.id, row)) (row_at (state (upto b H)) x.id)) spots
+
 -- the rows of a segment, in file order, with their values
 abbrev pub rows_of : History → Segment → Table
-rows_of H s = filter_map (λ x. option_map (λ row. (x.id, row)) (row_at (state (upto s.base H)) x.id)) s.spots
+rows_of H s = rows_at_base H s.base s.spots
+
+-- all rows placed at r: the versions visible then, and the rows at the places alive and unmarked then
+abbrev pub visible_rows : ℕ → List Version → Table
+visible_rows r versions = map (λ v. (v.id, v.row)) (filter (is_visible r) versions)
+
+abbrev pub segment_rows : ℕ → History → List Segment → Table
+segment_rows r H segments =
+    flat_map (λ s. rows_at_base H s.base (filter (is_unmarked r) s.spots)) (filter (is_alive r) segments)
+
+abbrev pub placed_rows : ℕ → History → Table
+placed_rows r H = visible_rows r (placement H).versions ++ segment_rows r H (placement H).segments
