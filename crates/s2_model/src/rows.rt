@@ -10,6 +10,9 @@ use s2_value::{Duplicate, Memory, Row, Seq, Value};
 use std::alloc::Global;
 use std::cmp::Ordering;
 
+#[cfg(test)]
+mod tests;
+
 fn accepts(op: Op, order: Ordering) -> bool
     ensures { result ≡ accepts op order }
 {
