@@ -7,6 +7,7 @@ mod logs;
 mod outcomes;
 mod predicates;
 mod replies;
+mod rows;
 mod runs;
 mod scripts;
 mod statements;
@@ -22,6 +23,7 @@ pub use outcomes::{
 };
 pub use predicates::{Op, Pred};
 pub use replies::{Cell, CellList, CellTable, Refusal, Reply};
+pub use rows::{after, matches};
 pub use runs::simple_runs_are_right;
 pub use s2_value::{IdList, OffsetList, SegList, TableRows, ValueList};
 pub use scripts::{Line, LineList, Options, Script};
