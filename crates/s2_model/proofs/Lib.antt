@@ -19,3 +19,4 @@ pub mod OldRows
 pub mod Merged
 pub mod MergeStep
 pub mod Whole
+pub mod Facts

@@ -186,7 +186,7 @@ unfolding least_needed
 least_pinned H k u session e =
     least_below H sessions (length H) k u (some_session (λ m. m == k) k session (eq-eqb k k refl)) e
 
-least_rises : (H : History) (low : ℕ) → low ≤ length H → ((k u : ℕ) → is_session k ≡ true → pin_of H k ≡ Some u → low ≤ u) → low ≤ least_needed H
+pub least_rises : (H : History) (low : ℕ) → low ≤ length H → ((k u : ℕ) → is_session k ≡ true → pin_of H k ≡ Some u → low ≤ u) → low ≤ least_needed H
 unfolding least_needed
 least_rises H low le pins = least_no_less H low pins sessions each_session (length H) le
 

@@ -319,5 +319,6 @@ placed_is_state H sounds s = record {
     once = λ r. (sounds r).held.rising }
 
 pub histories_are_placed : HistoriesArePlaced
-histories_are_placed schema options H fit =
-    (placed_is_state H (sound_at schema options H fit) (sound schema options H fit), (sound schema options H fit).held.live)
+histories_are_placed schema options H fit = record {
+    placed = placed_is_state H (sound_at schema options H fit) (sound schema options H fit);
+    stored = (sound schema options H fit).held.live }

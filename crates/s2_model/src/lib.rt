@@ -3,6 +3,7 @@
 
 mod entries;
 mod files;
+mod laws;
 mod logs;
 mod outcomes;
 mod predicates;
@@ -16,6 +17,11 @@ pub use entries::{
     Change, ChangeList, Entry, EntryList, FlushNote, MergeNote, NewSegList, PlaceList, What,
 };
 pub use files::{Logged, RowFile};
+pub use laws::{
+    histories_are_placed, horizons_are_pinned, only_commits_change,
+    physical_entries_change_no_row, placed_rows_are_rows, resting_rows_are_rows,
+    row_numbers_are_right,
+};
 pub use logs::Log;
 pub use outcomes::{
     MarkList, Outcome, PinList, PlacementNote, Ruling, Said, SaidList, SegNote, SegNoteList,

@@ -1,0 +1,40 @@
+//! Laws on histories.
+ghost use Rattle.s2_model.specs.Laws.{
+    HistoriesArePlaced, PlacedRowsAreRows, RestingRowsAreRows, RowNumbersAreRight,
+    HorizonsArePinned, PhysicalEntriesChangeNoRow, OnlyCommitsChange
+};
+
+/// Where each entry fits the history before it, the rows placed at a timestamp from the horizon on are together the content at that timestamp, no row number is placed twice, and each held row that there is has a living version in the row store.
+pub fn histories_are_placed()
+    ensures { HistoriesArePlaced }
+{}
+
+/// There each version has the content's row as long as it is visible, the row at each place is the same from its segment's base on as long as the place counts, and each row number is placed once where the content has a row of it, and else nowhere.
+pub fn placed_rows_are_rows()
+    ensures { PlacedRowsAreRows }
+{}
+
+/// There each row at an unmarked place of a living segment is a row of the content, as the unmarked rows of a plan's inputs are at its base.
+pub fn resting_rows_are_rows()
+    ensures { RestingRowsAreRows }
+{}
+
+/// There no row number is placed twice, each row number that is placed or held is at least 1 and below the next free one, no held row lies at an unmarked place of a living segment, and each held row has one holder, a session.
+pub fn row_numbers_are_right()
+    ensures { RowNumbersAreRight }
+{}
+
+/// There the horizon is at most the history's length and at most each open pin.
+pub fn horizons_are_pinned()
+    ensures { HorizonsArePinned }
+{}
+
+/// There a MOVE, FLUSH, MERGE, UPLOAD, EVICT or VACUUM changes neither the content nor the rows placed at a timestamp from the new horizon on, and the horizon never falls.
+pub fn physical_entries_change_no_row()
+    ensures { PhysicalEntriesChangeNoRow }
+{}
+
+/// Only a COMMIT changes the content.
+pub fn only_commits_change()
+    ensures { OnlyCommitsChange }
+{}
