@@ -20,3 +20,4 @@ pub mod Merged
 pub mod MergeStep
 pub mod Whole
 pub mod Facts
+pub mod WorkedRows
