@@ -1,16 +1,15 @@
 -- The rows that a flush takes or a merge writes: each at most once, and the marks on their new places.
-use Rattle.std.proofs.Common.{◌≡◌, ℕ, zero, suc, ◌+◌, ◌<◌, ◌≤◌, Bool, true, false, not, ◌&&◌, ◌||◌, cond, ◌==◌, nat_lt, nat_le, List, [], ◌∷◌, ◌++◌, map, filter, take, drop, length, Option, Some, None, is_some, refl, sym, ap, ap₂, subst, ◌∙◌, ⊎_elim, arith}
-use Rattle.std.specs.List.{list_any, enumerate_from}
-use Rattle.std.proofs.lemmas.Bool.Decides.{nat_tests}
-use Rattle.std.proofs.lemmas.Bool.{false≢true, true≢false, both_ways, eqb-true, eq-eqb, ne_eqb, cond-true, cond-false, or_left}
+use Rattle.std.proofs.Common.{◌≡◌, ℕ, zero, suc, ◌+◌, ◌<◌, ◌≤◌, Bool, true, false, not, ◌&&◌, ◌||◌, cond, ◌==◌, nat_lt, List, [], ◌∷◌, map, filter, take, drop, Option, Some, None, is_some, refl, sym, ap, ap₂, ◌∙◌, arith}
+use Rattle.std.specs.List.{enumerate_from}
+use Rattle.std.proofs.lemmas.Bool.{false≢true, both_ways, eqb-true, eq-eqb, ne_eqb, cond-true, cond-false, or_left}
 use Rattle.s2_value.specs.declared.schemas.Schema.{Schema}
-use Rattle.s2_model.specs.Table.{Table, RowOf, row_at, rises_above, IsTable}
+use Rattle.s2_model.specs.Table.{Table, RowOf, row_at, rises_above}
 use Rattle.s2_model.specs.Placement.{Spot, is_free, contains_number, new_spots, free_ids}
 use Rattle.s2_model.specs.Plan.{file_order, into_file_order, stands_before, row_ids}
 use Rattle.s2_model.specs.Fits.{offsets_where}
-use Rattle.s2_model.proofs.Lists.{bit, total, Each, total-map, total_same, each-map, each_all, any_counts, counts_any}
+use Rattle.s2_model.proofs.Lists.{bit, total, total-map, total_same, each_all}
 use Rattle.s2_model.proofs.Tables.{above_low}
-use Rattle.s2_model.proofs.Times.{IsBy, count_spots}
+use Rattle.s2_model.proofs.Times.{count_spots}
 use Rattle.s2_model.proofs.Invariant.{size}
 use Rattle.s2_model.proofs.MoveStep.{count_ids}
 

@@ -1,23 +1,20 @@
 -- A COMMIT: the versions of the changed rows end, and those of the last Puts begin.
-use Rattle.std.proofs.Common.{◌≡◌, ℕ, zero, suc, ◌+◌, ◌<◌, ◌≤◌, Bool, true, false, not, ◌&&◌, ◌||◌, cond, ◌==◌, nat_lt, nat_le, List, [], ◌∷◌, ◌++◌, map, length, Option, Some, None, is_some, refl, sym, ap, ap₂, subst, ◌∙◌, ⊎_elim, inl, inr, ◌⊎◌, arith}
-use Rattle.std.specs.List.{list_any, list_all}
-use Rattle.std.proofs.lemmas.Bool.Decides.{nat_tests}
-use Rattle.std.proofs.lemmas.Bool.{false≢true, true≢false, eqb-false, false_from_ne_true, both_ways, and_parts, and_from, eqb-true, eq-eqb, or_cases, or_left, or_right, not-true, cases_lt, cases_Bool, lt-leb, cond-true, cond-false}
+use Rattle.std.proofs.Common.{◌≡◌, ℕ, suc, ◌+◌, ◌<◌, ◌≤◌, Bool, true, false, not, ◌&&◌, ◌||◌, cond, ◌==◌, nat_le, List, [], ◌∷◌, ◌++◌, length, Option, Some, None, is_some, refl, sym, ap, subst, ◌∙◌, ⊎_elim, arith}
+use Rattle.std.proofs.lemmas.Bool.{false≢true, true≢false, eqb-false, false_from_ne_true, both_ways, and_from, eqb-true, eq-eqb, or_cases, lt-leb, cond-true, cond-false}
 use Rattle.s2_model.specs.declared.entries.Entry.{Entry}
 use Rattle.s2_model.specs.declared.entries.Change.{Change}
 use Rattle.s2_model.specs.declared.entries.Change.TheVariants.{Put, Drop}
-use Rattle.s2_model.specs.declared.entries.What.{What}
 use Rattle.s2_model.specs.declared.entries.What.TheVariants.{Commit}
-use Rattle.s2_model.specs.Table.{Table, RowOf, row_at, apply, touches, number_of, IsTable}
-use Rattle.s2_model.specs.History.{History, ◌▷◌, state, pending, greatest, is_session}
+use Rattle.s2_model.specs.Table.{RowOf, row_at, touches, number_of}
+use Rattle.s2_model.specs.History.{History, ◌▷◌, state, pending, greatest}
 use Rattle.s2_model.specs.Held.{holds}
-use Rattle.s2_model.specs.Placement.{Version, Spot, Segment, Placement, placement, lives, is_living, is_in_use, is_free, is_done, is_visible, is_alive, is_unmarked, ended, begun, end_version, new_version, set_at, after_commit}
+use Rattle.s2_model.specs.Placement.{Version, Spot, Segment, placement, lives, is_living, is_in_use, is_free, is_visible, ended, begun, end_version, new_version, set_at, after_commit}
 use Rattle.s2_model.proofs.Lists.{bit, total, Each, any_counts, counts_any, total-append, total-map, total_same, total_zero, each-append, each-map, each_all, each_weaker, each_both, each_part}
 use Rattle.s2_model.proofs.Tables.{row_at-apply, row_after, row_after_change, row_after_untouched, row_at_untouched, rises-apply}
-use Rattle.s2_model.proofs.Times.{IsBy, by_set, some_set, done_set_before, VersionBy, SegmentBy, PlacedBy, segment_by_more, version_by_more, count_at, count_now, count_versions, count_segments, count_spots}
-use Rattle.s2_model.proofs.Invariant.{size, VersionTells, SpotTells, SegmentTells, IsPlacedWell, IsHeldWell, IsSound, StepOf, placed_step, now_from_numbers, version_tells_kept, version_tells_ended, version_tells_new, spot_tells_kept}
+use Rattle.s2_model.proofs.Times.{IsBy, by_set, some_set, done_set_before, VersionBy, SegmentBy, segment_by_more, version_by_more, count_now, count_versions, count_segments, count_spots}
+use Rattle.s2_model.proofs.Invariant.{size, VersionTells, SpotTells, SegmentTells, IsPlacedWell, IsHeldWell, IsSound, placed_step, now_from_numbers, version_tells_kept, version_tells_ended, version_tells_new, spot_tells_kept}
 use Rattle.s2_model.proofs.Kept.{entry_of, pinned_kept}
-use Rattle.s2_model.proofs.WriteStep.{size_le, size_some, living_row}
+use Rattle.s2_model.proofs.WriteStep.{size_le}
 
 -- what ending the versions of some rows does, whatever the entry
 

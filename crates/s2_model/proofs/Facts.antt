@@ -1,25 +1,21 @@
 -- Further laws on histories whose entries fit.
-use Rattle.std.proofs.Common.{◌≡◌, ℕ, zero, suc, ◌+◌, ◌<◌, ◌≤◌, Bool, true, false, not, ◌&&◌, ◌||◌, cond, ◌==◌, List, [], ◌∷◌, ◌++◌, map, length, count_by, sum_by, Option, Some, None, is_some, refl, sym, ap, ap₂, subst, ◌∙◌, ⊎_elim, arith}
+use Rattle.std.proofs.Common.{◌≡◌, ℕ, ◌+◌, ◌≤◌, Bool, true, false, ◌&&◌, cond, ◌==◌, List, [], ◌∷◌, length, sum_by, Option, Some, None, is_some, refl, sym, ap, ap₂, ◌∙◌, ⊎_elim, arith}
 use Rattle.std.specs.List.{list_any}
 use Rattle.std.proofs.lemmas.List.Sums.{sum_by-cons}
-use Rattle.std.proofs.lemmas.Bool.{false≢true, true≢false, both_ways, and_parts, or_cases, cond-true}
-use Rattle.s2_value.specs.declared.schemas.Schema.{Schema}
-use Rattle.s2_model.specs.declared.entries.Entry.{Entry}
+use Rattle.std.proofs.lemmas.Bool.{false≢true, true≢false, and_parts, or_cases, cond-true}
 use Rattle.s2_model.specs.declared.entries.What.{What}
-use Rattle.s2_model.specs.declared.entries.What.TheVariants.{Begin, Write, Commit, Rollback, Pin, Unpin, Move, Flush, Merge, Upload, Evict, Vacuum}
-use Rattle.s2_model.specs.declared.scripts.Options.{Options}
-use Rattle.s2_model.specs.Table.{Table, RowOf, row_at}
-use Rattle.s2_model.specs.History.{History, ◌▷◌, upto, state, next, is_session, pin_of}
+use Rattle.s2_model.specs.declared.entries.What.TheVariants.{Commit, Vacuum}
+use Rattle.s2_model.specs.Table.{RowOf, row_at}
+use Rattle.s2_model.specs.History.{History, ◌▷◌, state}
 use Rattle.s2_model.specs.Held.{holds}
-use Rattle.s2_model.specs.Placement.{Version, Spot, Segment, Placement, placement, is_living, is_in_use, is_free, is_visible, is_alive, is_unmarked, contains_number}
-use Rattle.s2_model.specs.Plan.{rests_in}
-use Rattle.s2_model.specs.Fits.{AllFit, FitsAs}
-use Rattle.s2_model.specs.Laws.{times_in_versions, times_in_segment, times_placed, PlacesAreRows, PlacedRowsAreRows, RestingRowsAreRows, lies_in, NumbersAreRight, RowNumbersAreRight, IsPinned, HorizonsArePinned, is_physical, ChangesNoRow, PhysicalEntriesChangeNoRow, is_commit, OnlyCommitsChange}
+use Rattle.s2_model.specs.Placement.{Segment, Placement, placement, is_living, is_in_use, is_free, is_visible, is_alive, is_unmarked}
+use Rattle.s2_model.specs.Fits.{FitsAs}
+use Rattle.s2_model.specs.Laws.{times_in_segment, times_placed, PlacedRowsAreRows, RestingRowsAreRows, lies_in, RowNumbersAreRight, HorizonsArePinned, is_physical, PhysicalEntriesChangeNoRow, is_commit, OnlyCommitsChange}
 use Rattle.s2_model.proofs.Timestamps.{upto_past}
-use Rattle.s2_model.proofs.Lists.{bit, total, Each, total_same, each_all, each_weaker, each_both, any_counts}
+use Rattle.s2_model.proofs.Lists.{bit, total, total_same, each_all, each_weaker, each_both, any_counts}
 use Rattle.s2_model.proofs.Tables.{above_low}
-use Rattle.s2_model.proofs.Times.{VersionBy, SegmentBy, visible_living, count_at, count_now, count_at_now, count_versions, count_segments, count_spots}
-use Rattle.s2_model.proofs.Invariant.{size, row_then, row_then_now, VersionTells, SegmentTells, IsSound, now_from_numbers}
+use Rattle.s2_model.proofs.Times.{VersionBy, SegmentBy, visible_living, count_at, count_at_now, count_segments, count_spots}
+use Rattle.s2_model.proofs.Invariant.{size, row_then, row_then_now, VersionTells, IsSound, now_from_numbers}
 use Rattle.s2_model.proofs.WriteStep.{some_from_size, size_le}
 use Rattle.s2_model.proofs.CommitStep.{held_lies_nowhere}
 use Rattle.s2_model.proofs.UpkeepSteps.{least_rises}

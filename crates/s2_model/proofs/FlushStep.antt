@@ -1,23 +1,19 @@
 -- A FLUSH: its rows that can still be taken lie in the new segment from then on, and no more in the row store.
-use Rattle.std.proofs.Common.{◌≡◌, ℕ, zero, suc, ◌+◌, ◌<◌, ◌≤◌, Bool, true, false, not, ◌&&◌, ◌||◌, cond, ◌==◌, nat_lt, nat_le, List, [], ◌∷◌, ◌++◌, map, filter, take, length, Option, Some, None, is_some, refl, sym, ap, ap₂, subst, ◌∙◌, ⊎_elim, arith}
-use Rattle.std.specs.List.{list_any}
-use Rattle.std.proofs.lemmas.Bool.Decides.{nat_tests}
-use Rattle.std.proofs.lemmas.Bool.{false≢true, true≢false, both_ways, and_parts, and_from, eqb-true, leb-true, le-leb, lt-leb, not-true, not_from_false, cond-true, cond-false, cases_lt, false_from_ne_true}
+use Rattle.std.proofs.Common.{◌≡◌, ℕ, zero, suc, ◌+◌, ◌≤◌, Bool, true, false, not, ◌&&◌, cond, ◌==◌, nat_le, List, [], ◌∷◌, ◌++◌, map, filter, take, length, Option, Some, None, is_some, refl, sym, ap, subst, ◌∙◌, arith}
+use Rattle.std.proofs.lemmas.Bool.{false≢true, both_ways, and_parts, and_from, eqb-true, leb-true, le-leb, lt-leb, not-true, not_from_false, cond-true, cond-false, false_from_ne_true}
 use Rattle.s2_value.specs.declared.schemas.Schema.{Schema}
-use Rattle.s2_model.specs.declared.entries.Entry.{Entry}
 use Rattle.s2_model.specs.declared.entries.FlushNote.{FlushNote}
-use Rattle.s2_model.specs.declared.entries.What.{What}
 use Rattle.s2_model.specs.declared.entries.What.TheVariants.{Flush}
 use Rattle.s2_model.specs.declared.scripts.Options.{Options}
-use Rattle.s2_model.specs.Table.{Table, RowOf, row_at}
+use Rattle.s2_model.specs.Table.{row_at}
 use Rattle.s2_model.specs.History.{History, ◌▷◌, upto, state}
 use Rattle.s2_model.specs.Held.{holds, is_held}
-use Rattle.s2_model.specs.Placement.{Version, Spot, Segment, Placement, placement, lives, is_living, is_in_use, is_free, is_done, is_visible, is_alive, is_unmarked, contains_number, ended, new_spots, new_segment, flushed_segment, free_ids, after_flush}
-use Rattle.s2_model.specs.Plan.{can_take, lives_since, is_takeable, takes, row_ids, file_order}
-use Rattle.s2_model.specs.Fits.{last_segment, FlushFits, offsets_where}
-use Rattle.s2_model.proofs.Lists.{bit, total, Each, total-append, each-append, each-map, each_all, each_weaker, each_both, each_any, any_counts, counts_any, any_weaker}
-use Rattle.s2_model.proofs.Timestamps.{upto_all, upto_past}
-use Rattle.s2_model.proofs.Times.{IsBy, VersionBy, SegmentBy, PlacedBy, segment_by_more, count_at, count_now, count_versions, count_segments, count_spots}
+use Rattle.s2_model.specs.Placement.{Version, Spot, placement, lives, is_living, is_in_use, is_free, is_done, is_alive, is_unmarked, contains_number, ended, new_spots, flushed_segment, free_ids, after_flush}
+use Rattle.s2_model.specs.Plan.{can_take, lives_since, is_takeable, takes}
+use Rattle.s2_model.specs.Fits.{last_segment, FlushFits}
+use Rattle.s2_model.proofs.Lists.{bit, Each, total-append, each-append, each-map, each_all, each_weaker, each_any, any_counts, counts_any, any_weaker}
+use Rattle.s2_model.proofs.Timestamps.{upto_all}
+use Rattle.s2_model.proofs.Times.{IsBy, SegmentBy, segment_by_more, count_now, count_versions, count_segments, count_spots}
 use Rattle.s2_model.proofs.Invariant.{size, row_then, row_then_old, row_then_now, Lasts, VersionTells, SpotTells, SegmentTells, IsPlacedWell, IsSound, placed_step, now_from_numbers, old_or_new, spot_tells_new}
 use Rattle.s2_model.proofs.Holders.{held_by_session}
 use Rattle.s2_model.proofs.Kept.{entry_of, segments_kept, held_kept, shrinks_from, pinned_kept}

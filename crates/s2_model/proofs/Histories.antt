@@ -1,5 +1,5 @@
 -- The first r entries of a history, and the whole of it.
-use Rattle.std.proofs.Common.{◌≡◌, ℕ, ◌<◌, ◌≤◌, [], length, ap, ◌∙◌, ⊎_elim, arith}
+use Rattle.std.proofs.Common.{◌≡◌, ℕ, ◌≤◌, [], length, ap, ◌∙◌, ⊎_elim, arith}
 use Rattle.std.proofs.lemmas.Bool.{cases_lt}
 use Rattle.s2_model.specs.History.{History, ◌▷◌, upto}
 use Rattle.s2_model.proofs.Timestamps.{upto_all, upto_past}

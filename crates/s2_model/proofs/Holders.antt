@@ -1,7 +1,7 @@
 -- Who holds a row is a session.
-use Rattle.std.proofs.Common.{◌≡◌, ℕ, zero, suc, ◌+◌, ◌<◌, ◌≤◌, Bool, true, false, not, ◌&&◌, ◌||◌, cond, ◌==◌, List, [], ◌∷◌, ◌++◌, map, length, refl, sym, ap, ◌∙◌, ⊎_elim, inl, inr, arith}
+use Rattle.std.proofs.Common.{◌≡◌, ℕ, zero, suc, ◌+◌, ◌<◌, ◌≤◌, Bool, true, false, not, ◌&&◌, ◌==◌, List, [], ◌∷◌, sym, ap, ◌∙◌, ⊎_elim, arith}
 use Rattle.std.specs.List.{list_any, list_all, range_with_len}
-use Rattle.std.proofs.lemmas.Bool.{false≢true, both_ways, leb-true, and_parts, and_from, eqb-true, eqb-false, eq-eqb, cases_Bool, cases_eq, ne_eqb, not_from_false, or_cases, or_left, or_right}
+use Rattle.std.proofs.lemmas.Bool.{false≢true, both_ways, leb-true, and_parts, and_from, eqb-true, cases_eq, ne_eqb, not_from_false, or_cases, or_left, or_right}
 use Rattle.s2_model.specs.declared.entries.Change.{Change}
 use Rattle.s2_model.specs.Table.{touches, number_of}
 use Rattle.s2_model.specs.History.{History, is_session}

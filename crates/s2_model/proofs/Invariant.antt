@@ -1,18 +1,16 @@
 -- What holds of each history whose entries fit: where its rows lie, and who holds them.
-use Rattle.std.proofs.Common.{◌≡◌, ℕ, zero, suc, ◌+◌, ◌<◌, ◌≤◌, Bool, true, false, not, ◌&&◌, ◌||◌, cond, if◌then◌else◌, ◌==◌, nat_lt, nat_le, List, [], ◌∷◌, ◌++◌, map, length, Option, Some, None, is_some, refl, sym, ap, ap₂, subst, ◌∙◌, ⊎_elim, arith}
-use Rattle.std.proofs.lemmas.Bool.Decides.{nat_tests}
-use Rattle.std.proofs.lemmas.Bool.{false≢true, le-leb, lt-leb, cases_lt, and_parts}
+use Rattle.std.proofs.Common.{◌≡◌, ℕ, suc, ◌≤◌, true, not, ◌&&◌, nat_le, length, Option, Some, None, is_some, sym, ap, subst, ◌∙◌, ⊎_elim, arith}
+use Rattle.std.proofs.lemmas.Bool.{false≢true, lt-leb, cases_lt, and_parts}
 use Rattle.s2_model.specs.declared.entries.Entry.{Entry}
-use Rattle.s2_model.specs.declared.entries.What.{What}
-use Rattle.s2_model.specs.Table.{Table, RowOf, row_at, IsTable}
-use Rattle.s2_model.specs.History.{History, ◌▷◌, upto, state, pending, greatest, is_session, pin_of}
+use Rattle.s2_model.specs.Table.{RowOf, row_at, IsTable}
+use Rattle.s2_model.specs.History.{History, ◌▷◌, upto, state, greatest, is_session, pin_of}
 use Rattle.s2_model.specs.Held.{holds}
 use Rattle.s2_model.specs.Placement.{Version, Spot, Segment, Placement, placement, lives, is_done, is_visible, is_alive, is_unmarked, is_living, is_in_use, is_free, set_at, set_mark, end_version, end_segment}
 use Rattle.s2_model.specs.Fits.{last_segment}
-use Rattle.s2_model.proofs.Lists.{bit, total, Each, total_same, each_weaker}
+use Rattle.s2_model.proofs.Lists.{Each}
 use Rattle.s2_model.proofs.Timestamps.{upto_all, upto_past}
 use Rattle.s2_model.proofs.Histories.{upto_whole}
-use Rattle.s2_model.proofs.Times.{IsBy, by_more, by_set, done_by, done_set_before, done_set_now, VersionBy, SegmentBy, PlacedBy, visible_living, alive_in_use, unmarked_free, count_at, count_now, count_at_now}
+use Rattle.s2_model.proofs.Times.{IsBy, by_more, done_set_before, done_set_now, VersionBy, SegmentBy, PlacedBy, visible_living, alive_in_use, unmarked_free, count_at, count_now, count_at_now}
 
 -- one where there is a row, else none
 abbrev pub size : Option RowOf → ℕ

@@ -1,19 +1,17 @@
 -- Entries that leave the content and the placement as they are: BEGIN, ROLLBACK, PIN and UNPIN; and what all but COMMIT keep.
-use Rattle.std.proofs.Common.{◌≡◌, ℕ, zero, suc, ◌+◌, ◌<◌, ◌≤◌, Bool, true, false, not, ◌&&◌, ◌||◌, cond, if◌then◌else◌, ◌==◌, nat_lt, nat_le, List, [], ◌∷◌, ◌++◌, map, length, Option, Some, None, is_some, refl, sym, ap, ap₂, subst, ◌∙◌, ⊎_elim, arith}
-use Rattle.std.proofs.lemmas.Bool.Decides.{nat_tests}
-use Rattle.std.proofs.lemmas.Bool.{false≢true, eqb-true, cases_Bool}
+use Rattle.std.proofs.Common.{◌≡◌, ℕ, suc, ◌≤◌, Bool, true, false, cond, ◌==◌, List, length, Option, Some, None, is_some, refl, sym, ap, subst, ◌∙◌, arith}
+use Rattle.std.proofs.lemmas.Bool.{false≢true}
 use Rattle.s2_model.specs.declared.entries.Entry.{Entry}
-use Rattle.s2_model.specs.declared.entries.Change.{Change}
 use Rattle.s2_model.specs.declared.entries.What.{What}
 use Rattle.s2_model.specs.declared.entries.What.TheVariants.{Begin, Rollback, Pin, Unpin}
-use Rattle.s2_model.specs.Table.{Table, RowOf, row_at, touches, IsTable}
-use Rattle.s2_model.specs.History.{History, ◌▷◌, upto, state, pending, pending_after, pin_after, greatest, is_session, pin_of, is_open}
+use Rattle.s2_model.specs.Table.{row_at, touches, IsTable}
+use Rattle.s2_model.specs.History.{History, ◌▷◌, state, pending, pending_after, pin_after, greatest, is_session, pin_of}
 use Rattle.s2_model.specs.Held.{holds}
-use Rattle.s2_model.specs.Placement.{Version, Spot, Segment, Placement, placement, lives, is_living, is_in_use, is_free, is_visible, is_alive, is_unmarked}
-use Rattle.s2_model.specs.Fits.{last_segment, BeginFits}
+use Rattle.s2_model.specs.Placement.{Version, Segment, Placement, placement, lives}
+use Rattle.s2_model.specs.Fits.{last_segment}
 use Rattle.s2_model.proofs.Lists.{Each, each_both, each_weaker}
-use Rattle.s2_model.proofs.Times.{IsBy, VersionBy, SegmentBy, PlacedBy, placed_by_more, count_at, count_now}
-use Rattle.s2_model.proofs.Invariant.{size, VersionTells, SpotTells, SegmentTells, IsPlacedWell, IsHeldWell, IsSound, StepOf, placed_step, now_from_numbers, version_tells_kept, spot_tells_kept}
+use Rattle.s2_model.proofs.Times.{IsBy, VersionBy, SegmentBy, placed_by_more}
+use Rattle.s2_model.proofs.Invariant.{size, VersionTells, SpotTells, SegmentTells, IsPlacedWell, IsHeldWell, IsSound, placed_step, now_from_numbers, version_tells_kept, spot_tells_kept}
 
 abbrev pub entry_of : ℕ → What → Entry
 entry_of k w = record { actor = k; what = w }

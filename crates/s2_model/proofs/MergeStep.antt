@@ -1,22 +1,18 @@
 -- A MERGE: the rows that rest in its inputs lie in its outputs from then on, each once.
-use Rattle.std.proofs.Common.{◌≡◌, ℕ, zero, suc, ◌+◌, ◌<◌, ◌≤◌, Bool, true, false, not, ◌&&◌, ◌||◌, cond, ◌==◌, nat_lt, nat_le, List, [], ◌∷◌, ◌++◌, map, filter, length, Option, Some, None, is_some, refl, sym, ap, ap₂, subst, ◌∙◌, ⊎_elim, arith}
-use Rattle.std.specs.List.{list_any}
-use Rattle.std.proofs.lemmas.Bool.Decides.{nat_tests}
-use Rattle.std.proofs.lemmas.Bool.{false≢true, both_ways, and_parts, eqb-true, leb-true, lt-leb, cond-true, cond-false, cases_lt}
+use Rattle.std.proofs.Common.{◌≡◌, ℕ, suc, ◌+◌, ◌<◌, ◌≤◌, Bool, true, false, not, ◌&&◌, cond, ◌==◌, nat_le, List, ◌++◌, map, filter, length, Option, Some, None, is_some, refl, sym, ap, subst, ◌∙◌, arith}
+use Rattle.std.proofs.lemmas.Bool.{false≢true, and_parts, eqb-true, leb-true, lt-leb, cond-true, cond-false}
 use Rattle.s2_value.specs.declared.schemas.Schema.{Schema}
-use Rattle.s2_model.specs.declared.entries.Entry.{Entry}
 use Rattle.s2_model.specs.declared.entries.MergeNote.{MergeNote}
-use Rattle.s2_model.specs.declared.entries.What.{What}
 use Rattle.s2_model.specs.declared.entries.What.TheVariants.{Merge}
 use Rattle.s2_model.specs.declared.scripts.Options.{Options}
-use Rattle.s2_model.specs.Table.{Table, RowOf, row_at}
+use Rattle.s2_model.specs.Table.{row_at}
 use Rattle.s2_model.specs.History.{History, ◌▷◌, upto, state}
-use Rattle.s2_model.specs.Placement.{Version, Spot, Segment, Placement, placement, is_living, is_in_use, is_free, is_visible, is_alive, is_unmarked, contains_number, contains_place, new_spots, new_segment, merged_segments, end_segment, died_at, after_merge}
-use Rattle.s2_model.specs.Plan.{rests_in, writes, row_ids, cut, numbered, plan}
+use Rattle.s2_model.specs.Placement.{Spot, Segment, placement, is_in_use, is_free, is_visible, is_alive, is_unmarked, contains_number, contains_place, new_spots, new_segment, merged_segments, end_segment, died_at, after_merge}
+use Rattle.s2_model.specs.Plan.{rests_in, writes, row_ids, cut, numbered}
 use Rattle.s2_model.specs.Fits.{last_segment, last_number, next_segment, MergeFits, AllFit}
-use Rattle.s2_model.proofs.Lists.{bit, total, Each, total-append, total-map, total_same, total_zero, each-append, each-map, each_all, each_weaker, each_both, each_any}
-use Rattle.s2_model.proofs.Times.{IsBy, by_more, by_set, done_set_before, VersionBy, SegmentBy, PlacedBy, placed_by_more, segment_by_more, alive_in_use, unmarked_free, count_at, count_now, count_versions, count_segments, count_spots}
-use Rattle.s2_model.proofs.Invariant.{size, row_then, Lasts, SpotTells, SegmentTells, IsPlacedWell, IsSound, placed_step, now_from_numbers, lasts_new, spot_tells_died, spot_tells_new}
+use Rattle.s2_model.proofs.Lists.{bit, Each, total-append, total-map, total_same, total_zero, each-append, each-map, each_all, each_weaker, each_both, each_any}
+use Rattle.s2_model.proofs.Times.{IsBy, by_set, done_set_before, SegmentBy, placed_by_more, segment_by_more, alive_in_use, unmarked_free, count_now, count_versions, count_segments, count_spots}
+use Rattle.s2_model.proofs.Invariant.{size, Lasts, SpotTells, SegmentTells, IsPlacedWell, IsSound, placed_step, now_from_numbers, lasts_new, spot_tells_died, spot_tells_new}
 use Rattle.s2_model.proofs.Kept.{entry_of, versions_kept, segment_kept, held_kept, shrinks_from, pinned_kept}
 use Rattle.s2_model.proofs.WriteStep.{size_le}
 use Rattle.s2_model.proofs.MoveStep.{count_ids}

@@ -1,13 +1,11 @@
 -- The segments that a merge writes: their marks, and how often a row is in them.
-use Rattle.std.proofs.Common.{◌≡◌, ℕ, zero, suc, ◌+◌, ◌<◌, ◌≤◌, Bool, true, false, not, ◌&&◌, ◌||◌, cond, ◌==◌, nat_lt, nat_le, List, [], ◌∷◌, ◌++◌, map, flat_map, take, drop, length, Option, Some, None, is_some, refl, sym, ap, ap₂, subst, ◌∙◌, ⊎_elim, arith}
-use Rattle.std.specs.List.{list_any}
+use Rattle.std.proofs.Common.{◌≡◌, ℕ, zero, suc, ◌+◌, ◌<◌, ◌≤◌, Bool, true, false, not, ◌&&◌, ◌||◌, cond, ◌==◌, List, [], ◌∷◌, map, flat_map, drop, length, refl, sym, ap, ap₂, ◌∙◌, ⊎_elim, arith}
 use Rattle.std.proofs.lemmas.List.Folds.{list_any-append}
-use Rattle.std.proofs.lemmas.Bool.Decides.{nat_tests}
-use Rattle.std.proofs.lemmas.Bool.{false≢true, both_ways, and_parts, or_cases, or_left, eqb-true, eq-eqb, ne_eqb, cond-true, cond-false, not-true}
-use Rattle.s2_model.specs.Placement.{Spot, Segment, is_in_use, is_free, contains_number, contains_place, new_spots, new_segment, end_segment, set_at, died_at}
+use Rattle.std.proofs.lemmas.Bool.{false≢true, both_ways, and_parts, or_cases, eq-eqb, ne_eqb, cond-true}
+use Rattle.s2_model.specs.Placement.{Spot, Segment, is_in_use, is_free, contains_number, contains_place, new_spots, new_segment, end_segment, died_at}
 use Rattle.s2_model.specs.Plan.{cut, cut_times, numbered, rests_in}
 use Rattle.s2_model.specs.Fits.{offsets_where}
-use Rattle.s2_model.proofs.Lists.{bit, total, Each, total-append, total-map, total_same, total_part, each_all, any_counts, counts_any}
+use Rattle.s2_model.proofs.Lists.{bit, total, total-map, total_part, each_all, any_counts, counts_any}
 use Rattle.s2_model.proofs.Times.{some_set, count_spots, count_segments}
 use Rattle.s2_model.proofs.MoveStep.{count_ids}
 use Rattle.s2_model.proofs.Chosen.{spot_of, spots_where, new_spots_same, count_new_spots, total-take-drop}

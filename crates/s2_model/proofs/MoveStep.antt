@@ -1,18 +1,15 @@
 -- A MOVE: each row at its places gets a version, and the places are marked.
-use Rattle.std.proofs.Common.{◌≡◌, ℕ, zero, suc, ◌+◌, ◌<◌, ◌≤◌, Bool, true, false, not, ◌&&◌, ◌||◌, cond, ◌==◌, nat_lt, nat_le, List, [], ◌∷◌, ◌++◌, map, length, filter_map, flat_map, option_map, Option, Some, None, is_some, refl, sym, ap, ap₂, subst, ◌∙◌, ⊎_elim, arith}
-use Rattle.std.specs.List.{list_any, enumerate_from, cons_option}
+use Rattle.std.proofs.Common.{◌≡◌, ℕ, suc, ◌+◌, ◌<◌, ◌≤◌, Bool, true, false, not, ◌&&◌, cond, ◌==◌, nat_le, List, [], ◌∷◌, length, option_map, Option, Some, None, is_some, refl, sym, ap, ap₂, subst, ◌∙◌, arith}
+use Rattle.std.specs.List.{cons_option}
 use Rattle.std.proofs.lemmas.List.Folds.{list_any-append}
-use Rattle.std.proofs.lemmas.Bool.Decides.{nat_tests}
-use Rattle.std.proofs.lemmas.Bool.{false≢true, true≢false, both_ways, eqb-true, eqb-false, eq-eqb, or_left, lt-leb, cond-true, cond-false}
-use Rattle.s2_model.specs.declared.entries.Entry.{Entry}
-use Rattle.s2_model.specs.declared.entries.What.{What}
+use Rattle.std.proofs.lemmas.Bool.{eqb-true, or_left, lt-leb}
 use Rattle.s2_model.specs.declared.entries.What.TheVariants.{Move}
 use Rattle.s2_model.specs.Table.{Table, RowOf, row_at}
 use Rattle.s2_model.specs.History.{History, ◌▷◌, state}
-use Rattle.s2_model.specs.Placement.{Version, Spot, Segment, Placement, placement, lives, is_living, is_in_use, is_free, is_done, is_visible, is_alive, is_unmarked, copied, new_version, set_at, set_mark, mark_spots, mark_segment, marked, free_ids_at, moved_ids, contains_place, after_move}
+use Rattle.s2_model.specs.Placement.{Version, Spot, Segment, Placement, placement, is_living, is_in_use, is_free, is_visible, is_alive, is_unmarked, copied, new_version, set_mark, mark_spots, mark_segment, marked, free_ids_at, moved_ids, contains_place, after_move}
 use Rattle.s2_model.specs.Fits.{last_segment}
 use Rattle.s2_model.proofs.Lists.{bit, total, Each, total-append, total-map, total_same, total_zero, total_part, each-append, each-map, each_all, each_weaker, each_both}
-use Rattle.s2_model.proofs.Times.{IsBy, by_set, by_more, some_set, done_set_before, VersionBy, SegmentBy, PlacedBy, segment_by_more, version_by_more, count_at, count_now, count_versions, count_segments, count_spots}
+use Rattle.s2_model.proofs.Times.{IsBy, by_set, by_more, some_set, done_set_before, VersionBy, SegmentBy, version_by_more, count_now, count_versions, count_segments, count_spots}
 use Rattle.s2_model.proofs.Invariant.{size, VersionTells, SpotTells, SegmentTells, IsPlacedWell, IsSound, placed_step, now_from_numbers, version_tells_new, spot_tells_kept, spot_tells_marked}
 use Rattle.s2_model.proofs.Kept.{entry_of, versions_kept, held_kept, shrinks_from, pinned_kept}
 

@@ -1,24 +1,20 @@
 -- Rows in segments of old numbers only go, the bases of these segments stay, and new segments have new numbers.
-use Rattle.std.proofs.Common.{◌≡◌, ℕ, zero, suc, ◌+◌, ◌<◌, ◌≤◌, Bool, true, false, not, ◌&&◌, ◌||◌, cond, ◌==◌, nat_lt, nat_le, List, [], ◌∷◌, ◌++◌, map, filter, find, flat_map, take, fold, length, option_map, Option, Some, None, is_some, refl, sym, ap, ap₂, subst, ◌∙◌, ⊎_elim, inl, inr, ◌⊎◌, arith}
-use Rattle.std.specs.List.{list_any, enumerate_from}
+use Rattle.std.proofs.Common.{◌≡◌, ℕ, suc, ◌+◌, ◌<◌, ◌≤◌, Bool, true, false, not, ◌&&◌, ◌||◌, cond, ◌==◌, nat_le, List, [], ◌∷◌, ◌++◌, map, filter, find, flat_map, take, length, option_map, Option, Some, None, refl, sym, ap, subst, ◌∙◌, ⊎_elim, arith}
+use Rattle.std.specs.List.{list_any}
 use Rattle.std.proofs.lemmas.List.Folds.{list_any-append}
-use Rattle.std.proofs.lemmas.Bool.Decides.{nat_tests}
-use Rattle.std.proofs.lemmas.Bool.{false≢true, true≢false, and_parts, and_from, or_cases, cases_lt, eqb-true, both_ways}
+use Rattle.std.proofs.lemmas.Bool.{false≢true, and_parts, and_from, or_cases, cases_lt, eqb-true, both_ways}
 use Rattle.s2_value.specs.declared.schemas.Schema.{Schema}
-use Rattle.s2_model.specs.declared.entries.Entry.{Entry}
-use Rattle.s2_model.specs.declared.entries.FlushNote.{FlushNote}
-use Rattle.s2_model.specs.declared.entries.MergeNote.{MergeNote}
 use Rattle.s2_model.specs.declared.entries.What.{What}
 use Rattle.s2_model.specs.declared.entries.What.TheVariants.{Begin, Write, Commit, Rollback, Pin, Unpin, Move, Flush, Merge, Upload, Evict, Vacuum}
 use Rattle.s2_model.specs.declared.scripts.Options.{Options}
-use Rattle.s2_model.specs.History.{History, ◌▷◌, upto, state, pending}
-use Rattle.s2_model.specs.Placement.{Spot, Segment, Placement, placement, place_after, is_in_use, is_free, is_done, set_at, set_mark, mark_spots, mark_segment, contains_place, contains_number, new_segment, new_spots, flushed_segment, merged_segments, end_segment, store_segment, drop_file}
+use Rattle.s2_model.specs.History.{History, ◌▷◌, upto}
+use Rattle.s2_model.specs.Placement.{Spot, Segment, placement, is_in_use, is_free, is_done, set_mark, mark_spots, mark_segment, contains_place, contains_number, new_segment, new_spots, flushed_segment, merged_segments, end_segment, store_segment, drop_file}
 use Rattle.s2_model.specs.Plan.{plan, plan_of, runs_of, run_of, joined, runs_in_tier, tiers, Run, numbered, cut, writes, row_ids}
-use Rattle.s2_model.specs.Fits.{last_segment, last_number, last_segment_after, Fits, FitsAs, AllFit}
-use Rattle.s2_model.proofs.Lists.{Each, each-append, each-map, each-filter, each-take, each-flat_map, each_all, each_weaker, any-map, any-filter, any_weaker}
+use Rattle.s2_model.specs.Fits.{last_segment, last_number, FitsAs, AllFit}
+use Rattle.s2_model.proofs.Lists.{Each, each-append, each-map, each-filter, each-take, each-flat_map, each_weaker, any-map, any-filter}
 use Rattle.s2_model.proofs.Timestamps.{upto_all, upto_past}
 use Rattle.s2_model.proofs.Times.{some_set, SegmentBy}
-use Rattle.s2_model.proofs.Invariant.{IsSound, IsPlacedWell}
+use Rattle.s2_model.proofs.Invariant.{IsSound}
 use Rattle.s2_model.proofs.Kept.{entry_of}
 
 -- the row lies at an unmarked place of this living segment, whose number is old

@@ -1,10 +1,9 @@
 -- What times of a placement say before and after an entry.
-use Rattle.std.proofs.Common.{◌≡◌, ℕ, zero, suc, ◌+◌, ◌<◌, ◌≤◌, Bool, true, false, not, ◌&&◌, ◌||◌, cond, if◌then◌else◌, ◌==◌, nat_lt, nat_le, List, [], ◌∷◌, ◌++◌, map, length, Option, Some, None, is_some, refl, sym, ap, ap₂, ◌∙◌, arith}
-use Rattle.std.proofs.lemmas.Bool.Decides.{nat_tests}
-use Rattle.std.proofs.lemmas.Bool.{false≢true, le-leb, lt-leb}
+use Rattle.std.proofs.Common.{◌≡◌, ℕ, ◌+◌, ◌<◌, ◌≤◌, Bool, true, not, ◌&&◌, cond, ◌==◌, List, Option, Some, None, is_some, refl, ap, ap₂, arith}
+use Rattle.std.proofs.lemmas.Bool.{le-leb, lt-leb}
 use Rattle.std.specs.Prelude.{⊤}
-use Rattle.s2_model.specs.Placement.{Version, Spot, Segment, Placement, is_done, is_visible, is_alive, is_unmarked, is_living, is_in_use, is_free, set_at, set_mark, end_version, end_segment}
-use Rattle.s2_model.proofs.Lists.{bit, total, Each, total_same, each_weaker, total-append, each_all}
+use Rattle.s2_model.specs.Placement.{Version, Spot, Segment, Placement, is_done, is_visible, is_alive, is_unmarked, is_living, is_in_use, is_free, set_at}
+use Rattle.s2_model.proofs.Lists.{bit, total, Each, total_same, each_weaker}
 
 -- the time isn't set, or at most t
 abbrev pub IsBy : ℕ → Option ℕ → Type 0

@@ -1,19 +1,16 @@
 -- UPLOAD, EVICT and VACUUM: no row moves.
-use Rattle.std.proofs.Common.{◌≡◌, ℕ, zero, suc, ◌+◌, ◌<◌, ◌≤◌, min, Bool, true, false, not, ◌&&◌, ◌||◌, cond, ◌==◌, nat_lt, nat_le, List, [], ◌∷◌, ◌++◌, map, filter, fold, length, Option, Some, None, is_some, refl, sym, ap, ap₂, subst, ◌∙◌, ⊎_elim, arith}
-use Rattle.std.specs.List.{list_any, range_with_len}
+use Rattle.std.proofs.Common.{◌≡◌, ℕ, suc, ◌+◌, ◌≤◌, min, Bool, true, false, not, ◌&&◌, ◌||◌, cond, ◌==◌, nat_le, List, [], ◌∷◌, map, filter, fold, length, Option, Some, None, is_some, refl, sym, ap, ap₂, subst, ◌∙◌, arith}
 use Rattle.std.proofs.lemmas.Bool.Decides.{nat_tests}
-use Rattle.std.proofs.lemmas.Bool.{false≢true, true≢false, and_parts, leb-true, le-leb, not-true, eqb-true, eq-eqb}
+use Rattle.std.proofs.lemmas.Bool.{false≢true, eqb-true, eq-eqb}
 use Rattle.s2_model.specs.declared.entries.Entry.{Entry}
-use Rattle.s2_model.specs.declared.entries.What.{What}
 use Rattle.s2_model.specs.declared.entries.What.TheVariants.{Upload, Evict, Vacuum}
-use Rattle.s2_model.specs.Table.{row_at}
-use Rattle.s2_model.specs.History.{History, ◌▷◌, state, pin_of, is_session}
+use Rattle.s2_model.specs.History.{History, ◌▷◌, pin_of, is_session}
 use Rattle.s2_model.specs.Held.{sessions}
-use Rattle.s2_model.specs.Placement.{Version, Spot, Segment, Placement, placement, lives, is_living, is_in_use, is_free, is_done, is_visible, is_alive, is_unmarked, contains_number, store_segment, drop_file, after_upload, after_evict, after_vacuum}
+use Rattle.s2_model.specs.Placement.{Version, Segment, Placement, placement, is_living, is_in_use, is_free, is_done, is_visible, is_alive, is_unmarked, contains_number, store_segment, drop_file, after_upload, after_evict, after_vacuum}
 use Rattle.s2_model.specs.Fits.{last_segment, least_needed, least_pin, VacuumFits}
-use Rattle.s2_model.proofs.Lists.{bit, total, Each, total-map, total_same, total-filter, each-map, each-filter, each_all, each_weaker, any_counts, counts_any}
-use Rattle.s2_model.proofs.Times.{IsBy, VersionBy, SegmentBy, PlacedBy, placed_by_more, segment_by_more, count_at, count_now, count_versions, count_segments, count_spots}
-use Rattle.s2_model.proofs.Invariant.{size, VersionTells, SpotTells, SegmentTells, IsPlacedWell, IsSound, placed_step, now_from_numbers}
+use Rattle.s2_model.proofs.Lists.{bit, Each, total-map, total_same, total-filter, each-map, each-filter, each_all, any_counts, counts_any}
+use Rattle.s2_model.proofs.Times.{VersionBy, SegmentBy, PlacedBy, placed_by_more, segment_by_more, count_at, count_now, count_versions, count_spots}
+use Rattle.s2_model.proofs.Invariant.{size, VersionTells, SegmentTells, IsPlacedWell, IsSound, placed_step, now_from_numbers}
 use Rattle.s2_model.proofs.Holders.{some_session}
 use Rattle.s2_model.proofs.Kept.{entry_of, SameRows, versions_kept, segments_kept, held_kept, shrinks_from, pinned_kept, pin_of_other}
 

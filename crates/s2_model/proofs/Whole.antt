@@ -1,24 +1,23 @@
 -- The law on histories: the placed rows are the content.
-use Rattle.std.proofs.Common.{◌≡◌, ℕ, zero, suc, ◌+◌, ◌<◌, ◌≤◌, Bool, true, false, not, ◌&&◌, ◌||◌, cond, ◌==◌, nat_lt, nat_le, List, [], ◌∷◌, ◌++◌, map, filter, filter_map, flat_map, option_map, length, Option, Some, None, is_some, refl, sym, ap, ap₂, subst, ◌∙◌, ⊎_elim, arith}
-use Rattle.std.specs.List.{list_any, cons_option}
+use Rattle.std.proofs.Common.{◌≡◌, ℕ, ◌+◌, ◌<◌, ◌≤◌, Bool, true, false, not, ◌&&◌, cond, ◌==◌, nat_lt, nat_le, List, [], ◌∷◌, filter, flat_map, option_map, length, Option, Some, None, is_some, refl, sym, ap, ap₂, subst, ◌∙◌, ⊎_elim, arith}
+use Rattle.std.specs.List.{cons_option}
 use Rattle.std.proofs.lemmas.Bool.Decides.{nat_tests}
-use Rattle.std.proofs.lemmas.Bool.{false≢true, true≢false, ne_eqb, both_ways, and_parts, and_from, eqb-true, eqb-false, eq-eqb, leb-true, cond-true, cond-false, cases_lt, cases_order}
+use Rattle.std.proofs.lemmas.Bool.{false≢true, ne_eqb, and_parts, eqb-true, eqb-false, eq-eqb, leb-true, cond-false, cases_lt, cases_order}
 use Rattle.s2_value.specs.declared.schemas.Schema.{Schema}
-use Rattle.s2_model.specs.declared.entries.Entry.{Entry}
 use Rattle.s2_model.specs.declared.entries.What.{What}
 use Rattle.s2_model.specs.declared.entries.What.TheVariants.{Begin, Write, Commit, Rollback, Pin, Unpin, Move, Flush, Merge, Upload, Evict, Vacuum}
 use Rattle.s2_model.specs.declared.scripts.Options.{Options}
-use Rattle.s2_model.specs.Table.{Table, RowOf, row_at, rises_above, IsTable}
+use Rattle.s2_model.specs.Table.{Table, RowOf, row_at, rises_above}
 use Rattle.s2_model.specs.History.{History, ◌▷◌, upto, state}
-use Rattle.s2_model.specs.Placement.{Version, Spot, Segment, Placement, placement, is_visible, is_alive, is_unmarked, is_done, rows_at_base, visible_rows, segment_rows, placed_rows}
-use Rattle.s2_model.specs.Fits.{FitsAs, Fits, AllFit}
-use Rattle.s2_model.specs.Laws.{into_order, by_number, PlacedIsState, HeldRowsAreStored, HistoriesArePlaced}
+use Rattle.s2_model.specs.Placement.{Version, Spot, Segment, placement, is_visible, is_alive, is_unmarked, is_done, rows_at_base, visible_rows, segment_rows, placed_rows}
+use Rattle.s2_model.specs.Fits.{FitsAs, AllFit}
+use Rattle.s2_model.specs.Laws.{into_order, by_number, PlacedIsState, HistoriesArePlaced}
 use Rattle.s2_model.proofs.Timestamps.{upto_all, upto_past}
-use Rattle.s2_model.proofs.Histories.{upto_whole, length-upto}
-use Rattle.s2_model.proofs.Lists.{bit, total, Each, total-append, total-map, total_same, total-filter, each-append, each-map, each-filter, each_all, each_weaker, each_both}
+use Rattle.s2_model.proofs.Histories.{upto_whole}
+use Rattle.s2_model.proofs.Lists.{bit, Each, total-append, total-map, total_same, total-filter, each-append, each-map, each_all, each_weaker, each_both}
 use Rattle.s2_model.proofs.Tables.{above_low}
-use Rattle.s2_model.proofs.Times.{VersionBy, SegmentBy, PlacedBy, count_at, count_versions, count_segments, count_spots}
-use Rattle.s2_model.proofs.Invariant.{size, row_then, Lasts, VersionTells, SpotTells, SegmentTells, IsPlacedWell, IsHeldWell, IsSound}
+use Rattle.s2_model.proofs.Times.{SegmentBy, count_versions, count_segments, count_spots}
+use Rattle.s2_model.proofs.Invariant.{size, row_then, Lasts, VersionTells, SpotTells, SegmentTells, IsSound}
 use Rattle.s2_model.proofs.Kept.{entry_of, begin_sound, rollback_sound, pin_sound, unpin_sound}
 use Rattle.s2_model.proofs.WriteStep.{write_sound, some_from_size}
 use Rattle.s2_model.proofs.CommitStep.{commit_sound, places_counted}

@@ -1,24 +1,20 @@
 -- A WRITE that fits: what it holds is nobody else's, and lies in the row store where it is a row.
-use Rattle.std.proofs.Common.{◌≡◌, ℕ, zero, suc, ◌+◌, ◌<◌, ◌≤◌, max, Bool, true, false, not, ◌&&◌, ◌||◌, cond, ◌==◌, nat_lt, nat_le, List, [], ◌∷◌, ◌++◌, map, length, fold, Option, Some, None, is_some, refl, sym, ap, subst, ◌∙◌, ⊎_elim, inl, inr, ◌⊎◌, arith}
-use Rattle.std.specs.List.{list_any, list_all}
+use Rattle.std.proofs.Common.{◌≡◌, ℕ, ◌≤◌, max, Bool, true, false, not, ◌&&◌, ◌||◌, cond, ◌==◌, nat_lt, List, [], ◌∷◌, ◌++◌, Option, Some, None, is_some, refl, sym, subst, ◌∙◌, ⊎_elim, inl, inr, ◌⊎◌, arith}
+use Rattle.std.specs.List.{list_any}
 use Rattle.std.proofs.lemmas.List.Folds.{list_any-append}
-use Rattle.std.proofs.lemmas.Bool.Decides.{nat_tests}
-use Rattle.std.proofs.lemmas.Bool.{false≢true, both_ways, and_parts, eqb-true, eq-eqb, or_cases, or_left, or_right, not-true, cases_lt, lt-ltb}
+use Rattle.std.proofs.lemmas.Bool.{false≢true, both_ways, and_parts, eqb-true, or_cases, or_left, or_right, not-true, cases_lt, lt-ltb}
 use Rattle.s2_value.specs.declared.schemas.Schema.{Schema}
-use Rattle.s2_model.specs.declared.entries.Entry.{Entry}
 use Rattle.s2_model.specs.declared.entries.Change.{Change}
 use Rattle.s2_model.specs.declared.entries.Change.TheVariants.{Put, Drop}
-use Rattle.s2_model.specs.declared.entries.What.{What}
 use Rattle.s2_model.specs.declared.entries.What.TheVariants.{Write}
-use Rattle.s2_model.specs.Table.{Table, RowOf, row_at, touches, number_of, IsTable}
+use Rattle.s2_model.specs.Table.{RowOf, row_at, touches, number_of}
 use Rattle.s2_model.specs.History.{History, ◌▷◌, state, pending, greatest, greatest_in, next, is_session}
 use Rattle.s2_model.specs.Held.{holds, is_held_by_other}
-use Rattle.s2_model.specs.Placement.{Version, Placement, placement, lives, is_living, is_in_use, is_free}
-use Rattle.s2_model.specs.Fits.{WriteFits, is_writable, is_in_store, puts, is_unpinned_session}
-use Rattle.s2_model.proofs.Lists.{bit, total, any_counts}
+use Rattle.s2_model.specs.Placement.{Placement, placement, lives, is_living}
+use Rattle.s2_model.specs.Fits.{WriteFits, is_writable, is_in_store, puts}
+use Rattle.s2_model.proofs.Lists.{any_counts}
 use Rattle.s2_model.proofs.Tables.{above_low}
-use Rattle.s2_model.proofs.Times.{count_now, count_versions}
-use Rattle.s2_model.proofs.Invariant.{size, IsPlacedWell, IsHeldWell, IsSound, now_from_numbers}
+use Rattle.s2_model.proofs.Invariant.{size, IsPlacedWell, IsSound, now_from_numbers}
 use Rattle.s2_model.proofs.Holders.{holder_is, touched_has}
 use Rattle.s2_model.proofs.Kept.{entry_of, placed_kept, pinned_kept}
 

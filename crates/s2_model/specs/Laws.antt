@@ -1,5 +1,5 @@
 -- What holds of every history whose entries fit.
-use Rattle.std.specs.Prelude.{◌≡◌, ◌≤◌, ◌<◌, ◌+◌, ℕ, Bool, true, false, List, [], ◌∷◌, Option, Some, None, length, nat_le, ◌&&◌, if◌then◌else◌, ◌==◌, is_some, count_by, sum_by}
+use Rattle.std.specs.Prelude.{◌≡◌, ◌≤◌, ◌<◌, ◌+◌, ℕ, Bool, true, false, List, [], ◌∷◌, Some, length, nat_le, ◌&&◌, if◌then◌else◌, ◌==◌, is_some, count_by, sum_by}
 use Rattle.std.specs.List.{list_any, AllByRecursion}
 use Rattle.s2_value.specs.declared.schemas.Schema.{Schema}
 use Rattle.s2_model.specs.declared.entries.Entry.{Entry}
@@ -11,7 +11,7 @@ use Rattle.s2_model.specs.History.{History, ◌▷◌, upto, state, next, is_ses
 use Rattle.s2_model.specs.Held.{holds}
 use Rattle.s2_model.specs.Placement.{Version, Spot, Segment, Placement, placement, placed_rows, lives, is_living, is_in_use, is_free, is_visible, is_alive, is_unmarked}
 use Rattle.s2_model.specs.Plan.{rests_in}
-use Rattle.s2_model.specs.Fits.{AllFit, Fits}
+use Rattle.s2_model.specs.Fits.{AllFit}
 
 -- rows by rising number; two rows of one number stay two
 abbrev pub into_order : ℕ × RowOf → Table → Table
