@@ -47,9 +47,11 @@ rising_count low n (p ∷ rows) up =
     rest : (a b : Bool) → cond a b false ≡ true → b ≡ true
     rest true b e = e
     rest false b e = absurd (false≢true e)
+
     none : (o : Option RowOf) → (is_some o ≡ true → ⊥) → size o ≡ 0
     none None f = refl
     none (Some x) f = absurd (f refl)
+
     go : (b : Bool) → (p.0 == n) ≡ b → count_rows n rows ≡ size (row_at rows n) → (is_some (row_at rows n) ≡ true → p.0 < n)
         → bit b + count_rows n rows ≡ size (cond b (Some p.1) (row_at rows n))
     go true e ih above = omega (arith, ih, none (row_at rows n) (λ has. omega (arith, above has, eqb-true p.0 n e)))
@@ -101,6 +103,7 @@ offset_later o m test (n ∷ ids) lt = go (test n) (offset_later (o + 1) m test 
   where
     other : (o == m) ≡ false
     other = ne_eqb o m (λ e. omega arith)
+
     go : (b : Bool) → contains_number (offsets_from (o + 1) test ids) m ≡ false
         → contains_number (map (λ p. p.0) (cond b ((o, n) ∷ filter (λ p. test p.1) (enumerate_from (o + 1) ids)) (filter (λ p. test p.1) (enumerate_from (o + 1) ids)))) m ≡ false
     go true ih = ap (λ c. c || contains_number (offsets_from (o + 1) test ids) m) other ∙ ih
@@ -110,7 +113,7 @@ pub new_spots_same : (t : ℕ) (f g : ℕ → Bool) (o : ℕ) → ((p : ℕ) →
 new_spots_same t f g o same [] = refl
 new_spots_same t f g o same (n ∷ ids) =
     ap₂ ◌∷◌ (ap (λ b. record { id = n; mark = cond b (Some t) None }) (same o (omega arith)))
-        (new_spots_same t f g (o + 1) (λ p le. same p (omega arith)) ids)
+    (new_spots_same t f g (o + 1) (λ p le. same p (omega arith)) ids)
 
 spots_from : (t o : ℕ) (test : ℕ → Bool) (ids : List ℕ) → new_spots t (contains_number (offsets_from o test ids)) o ids ≡ map (spot_of t test) ids
 spots_from t o test [] = refl
@@ -118,14 +121,16 @@ spots_from t o test (n ∷ ids) = go (test n) refl (spots_from t (o + 1) test id
   where
     offs : Bool → List ℕ
     offs b = map (λ p. p.0) (cond b ((o, n) ∷ filter (λ p. test p.1) (enumerate_from (o + 1) ids)) (filter (λ p. test p.1) (enumerate_from (o + 1) ids)))
+
     spot : Bool → Spot
     spot b = record { id = n; mark = cond b (Some t) None }
+
     go : (b : Bool) → test n ≡ b → new_spots t (contains_number (offsets_from (o + 1) test ids)) (o + 1) ids ≡ map (spot_of t test) ids
         → spot (contains_number (offs b) o) ∷ new_spots t (contains_number (offs b)) (o + 1) ids ≡ spot_of t test n ∷ map (spot_of t test) ids
     go true e ih =
         ap₂ ◌∷◌ (ap spot (or_left (o == o) _ (eq-eqb o o refl) ∙ sym e))
-            (new_spots_same t (contains_number (offs true)) (contains_number (offsets_from (o + 1) test ids)) (o + 1)
-                (λ p le. ap (λ c. c || contains_number (offsets_from (o + 1) test ids) p) (ne_eqb o p (λ same. omega arith))) ids ∙ ih)
+        (new_spots_same t (contains_number (offs true)) (contains_number (offsets_from (o + 1) test ids)) (o + 1)
+        (λ p le. ap (λ c. c || contains_number (offsets_from (o + 1) test ids) p) (ne_eqb o p (λ same. omega arith))) ids ∙ ih)
     go false e ih =
         ap₂ ◌∷◌ (ap spot (offset_later (o + 1) o test ids (omega arith) ∙ sym e)) ih
 

@@ -37,7 +37,6 @@ taken H f n = contains_number (free_ids (spots_of H f)) n
 
 module _ (schema : Schema) (options : Options) (H : History) (k : ℕ) (f : FlushNote) (sounds : (r : ℕ) → IsSound (upto r H)) (s : IsSound H)
     (fits : FlushFits schema options H k f) where
-
   spots_are : spots_of H f ≡ map (spot_of (suc (length H)) (gone H f)) f.rows
   spots_are = ap (λ m. new_spots (suc (length H)) (contains_number m) 0 f.rows) fits.marks ∙ spots_where (suc (length H)) (gone H f) f.rows
 
@@ -47,14 +46,17 @@ module _ (schema : Schema) (options : Options) (H : History) (k : ℕ) (f : Flus
   -- a row is taken once at most
   once : (n : ℕ) → count_ids n f.rows ≤ 1
   once n =
-      omega (arith, ap (count_ids n) fits.rows,
-          count_row_ids n (takes schema options (upto f.base H)),
-          total-file_order (λ p. bit (p.0 == n)) schema (take options.segment_rows (filter (λ p. is_takeable (upto f.base H) p.0) (state (upto f.base H)))),
-          total-take-le (λ p. bit (p.0 == n)) options.segment_rows (filter (λ p. is_takeable (upto f.base H) p.0) (state (upto f.base H))),
-          count_rows-filter n (is_takeable (upto f.base H)) (state (upto f.base H)),
-          part (is_takeable (upto f.base H) n) (count_rows n (state (upto f.base H))),
-          rising_count 0 n (state (upto f.base H)) (sounds f.base).held.rising,
-          size_le (row_at (state (upto f.base H)) n))
+      omega (
+        arith,
+        ap (count_ids n) fits.rows,
+        count_row_ids n (takes schema options (upto f.base H)),
+        total-file_order (λ p. bit (p.0 == n)) schema (take options.segment_rows (filter (λ p. is_takeable (upto f.base H) p.0) (state (upto f.base H)))),
+        total-take-le (λ p. bit (p.0 == n)) options.segment_rows (filter (λ p. is_takeable (upto f.base H) p.0) (state (upto f.base H))),
+        count_rows-filter n (is_takeable (upto f.base H)) (state (upto f.base H)),
+        part (is_takeable (upto f.base H) n) (count_rows n (state (upto f.base H))),
+        rising_count 0 n (state (upto f.base H)) (sounds f.base).held.rising,
+        size_le (row_at (state (upto f.base H)) n),
+      )
     where
       part : (b : Bool) (m : ℕ) → cond b m 0 ≤ m
       part true m = omega arith
@@ -87,29 +89,31 @@ module _ (schema : Schema) (options : Options) (H : History) (k : ℕ) (f : Flus
   taken_lives : (n : ℕ) → can_take f.base H n ≡ true → 1 ≤ count_versions is_living n (placement H).versions
   taken_lives n e =
       any_counts (λ v. v.id == n && is_living v) (placement H).versions
-          (any_weaker (λ v. v.id == n && is_living v && nat_le v.begin f.base) (λ v. v.id == n && is_living v)
-              (λ v g. (and_parts _ _ g).0) (placement H).versions (and_parts _ _ e).0)
+      (any_weaker (λ v. v.id == n && is_living v && nat_le v.begin f.base) (λ v. v.id == n && is_living v)
+      (λ v g. (and_parts _ _ g).0) (placement H).versions (and_parts _ _ e).0)
 
   taken_lasts : (n : ℕ) → can_take f.base H n ≡ true → Lasts (flushed H k f) f.base n (suc (length H))
   taken_lasts n e =
       each_any (VersionTells H) (λ v. v.id == n && is_living v && nat_le v.begin f.base) (Lasts (flushed H k f) f.base n (suc (length H)))
-          (λ v tells g. lasts v tells (eqb-true v.id n (and_parts _ _ (and_parts _ _ g).0).0) (and_parts _ _ (and_parts _ _ g).0).1 (leb-true v.begin f.base (and_parts _ _ g).1))
-          (placement H).versions s.placed.versions_tell (and_parts _ _ e).0
+      (λ v tells g. lasts v tells (eqb-true v.id n (and_parts _ _ (and_parts _ _ g).0).0) (and_parts _ _ (and_parts _ _ g).0).1 (leb-true v.begin f.base (and_parts _ _ g).1))
+      (placement H).versions s.placed.versions_tell (and_parts _ _ e).0
     where
       seen : (v : Version) (o : Option ℕ) (q : ℕ) → not (is_some o) ≡ true → v.begin ≤ q → (nat_le v.begin q && not (is_done q o)) ≡ true
       seen v None q living le = and_from _ _ (le-leb v.begin q le) refl
       seen v (Some u) q living le = absurd (false≢true living)
+
       row : (v : Version) → VersionTells H v → v.id ≡ n → is_living v ≡ true → v.begin ≤ f.base → (q : ℕ) → f.base ≤ q → q ≤ length H → row_then H q n ≡ Some v.row
       row v tells at living le q from to =
           ap (row_then H q) (sym at) ∙ tells q to (seen v v.stop q living (omega arith))
+
       lasts : (v : Version) → VersionTells H v → v.id ≡ n → is_living v ≡ true → v.begin ≤ f.base → Lasts (flushed H k f) f.base n (suc (length H))
       lasts v tells at living le q from to =
           let base = row_then_old H (entry_of k (Flush f)) f.base n fits.base ∙ row v tells at living le f.base (omega arith) fits.base in
           old_or_new H (entry_of k (Flush f)) q to (row_then (flushed H k f) q n ≡ row_then (flushed H k f) f.base n)
-              (λ old. row_then_old H (entry_of k (Flush f)) q n old ∙ row v tells at living le q from old ∙ sym base)
-              (λ new.
-                  ap (λ G. row_at (state G) n) (upto_all q (flushed H k f) (omega arith))
-                  ∙ sym (row_then_now H n) ∙ row v tells at living le (length H) fits.base (omega arith) ∙ sym base)
+          (λ old. row_then_old H (entry_of k (Flush f)) q n old ∙ row v tells at living le q from old ∙ sym base)
+          (λ new.
+          ap (λ G. row_at (state G) n) (upto_all q (flushed H k f) (omega arith))
+          ∙ sym (row_then_now H n) ∙ row v tells at living le (length H) fits.base (omega arith) ∙ sym base)
 
   -- the step
 
@@ -119,20 +123,31 @@ module _ (schema : Schema) (options : Options) (H : History) (k : ℕ) (f : Flus
       segs : count_segments is_in_use is_free n ((placement H).segments ++ flushed_segment (suc (length H)) f ∷ [])
           ≡ count_segments is_in_use is_free n (placement H).segments + (count_spots is_free n (spots_of H f) + 0)
       segs = total-append (λ g. cond (is_in_use g) (count_spots is_free n g.spots) 0) (placement H).segments (flushed_segment (suc (length H)) f ∷ [])
+
       go : (b : Bool) → taken H f n ≡ b → count_now n (after_flush (suc (length H)) f (placement H)) ≡ size (row_at (state H) n)
       go true e =
-          omega (arith, segs, taken_count n e, taken_lives n (taken_can n e),
-              ended_now (suc (length H)) n (taken H f) (placement H).versions ∙ cond-true (taken H f n) 0 (count_versions is_living n (placement H).versions) e,
-              now_from_numbers H (placement H) s.placed n, size_le (row_at (state H) n))
+          omega (
+            arith,
+            segs,
+            taken_count n e,
+            taken_lives n (taken_can n e),
+            ended_now (suc (length H)) n (taken H f) (placement H).versions ∙ cond-true (taken H f n) 0 (count_versions is_living n (placement H).versions) e,
+            now_from_numbers H (placement H) s.placed n,
+            size_le (row_at (state H) n),
+          )
       go false e =
-          omega (arith, segs, left_count n e,
-              ended_now (suc (length H)) n (taken H f) (placement H).versions ∙ cond-false (taken H f n) 0 (count_versions is_living n (placement H).versions) e,
-              now_from_numbers H (placement H) s.placed n)
+          omega (
+            arith,
+            segs,
+            left_count n e,
+            ended_now (suc (length H)) n (taken H f) (placement H).versions ∙ cond-false (taken H f n) 0 (count_versions is_living n (placement H).versions) e,
+            now_from_numbers H (placement H) s.placed n,
+          )
 
   new_spots_by : Each (λ x. IsBy (suc (length H)) x.mark) (spots_of H f)
   new_spots_by =
       subst (Each (λ x. IsBy (suc (length H)) x.mark)) (sym spots_are)
-          (each-map (λ n. Unit {0}) (λ x. IsBy (suc (length H)) x.mark) (spot_of (suc (length H)) (gone H f)) (λ n u. go (gone H f n)) f.rows (each_all (λ n. Unit {0}) (λ n. tt) f.rows))
+      (each-map (λ n. Unit {0}) (λ x. IsBy (suc (length H)) x.mark) (spot_of (suc (length H)) (gone H f)) (λ n u. go (gone H f n)) f.rows (each_all (λ n. Unit {0}) (λ n. tt) f.rows))
     where
       go : (b : Bool) → IsBy (suc (length H)) (cond b (Some (suc (length H))) None)
       go true = omega arith
@@ -141,14 +156,15 @@ module _ (schema : Schema) (options : Options) (H : History) (k : ℕ) (f : Flus
   new_spots_tell : SegmentTells (flushed H k f) (flushed_segment (suc (length H)) f)
   new_spots_tell =
       subst (Each (SpotTells (flushed H k f) (flushed_segment (suc (length H)) f))) (sym spots_are)
-          (each-map (λ n. Unit {0}) (SpotTells (flushed H k f) (flushed_segment (suc (length H)) f)) (spot_of (suc (length H)) (gone H f))
-              (λ n u. spot_tells_new H (entry_of k (Flush f)) (flushed_segment (suc (length H)) f) (spot_of (suc (length H)) (gone H f) n) refl
-                  (λ free. taken_lasts n (can n free)) (by (gone H f n)))
-              f.rows (each_all (λ n. Unit {0}) (λ n. tt) f.rows))
+      (each-map (λ n. Unit {0}) (SpotTells (flushed H k f) (flushed_segment (suc (length H)) f)) (spot_of (suc (length H)) (gone H f))
+      (λ n u. spot_tells_new H (entry_of k (Flush f)) (flushed_segment (suc (length H)) f) (spot_of (suc (length H)) (gone H f) n) refl
+      (λ free. taken_lasts n (can n free)) (by (gone H f n)))
+      f.rows (each_all (λ n. Unit {0}) (λ n. tt) f.rows))
     where
       by : (b : Bool) → IsBy (suc (length H)) (cond b (Some (suc (length H))) None)
       by true = omega arith
       by false = tt
+
       can : (n : ℕ) → is_free (spot_of (suc (length H)) (gone H f) n) ≡ true → can_take f.base H n ≡ true
       can n free = go (can_take f.base H n) free
         where
@@ -158,26 +174,30 @@ module _ (schema : Schema) (options : Options) (H : History) (k : ℕ) (f : Flus
 
   flush_placed : IsPlacedWell (flushed H k f) (after_flush (suc (length H)) f (placement H))
   flush_placed = placed_step H (entry_of k (Flush f)) (placement H) (after_flush (suc (length H)) f (placement H)) s.placed (record {
-      by = record {
-          versions = ended_by H (taken H f) (placement H).versions s.placed.by.versions;
-          segments = each-append (SegmentBy (suc (length H))) (placement H).segments (flushed_segment (suc (length H)) f ∷ [])
-              (each_weaker (SegmentBy (length H)) (SegmentBy (suc (length H))) (segment_by_more (length H) (suc (length H)) (omega arith)) (placement H).segments s.placed.by.segments)
-              (record { base = omega (arith, fits.base); born = omega arith; died = tt; marks = new_spots_by }, tt) };
-      versions_tell = ended_tell H (entry_of k (Flush f)) (taken H f) (λ n other. refl) (placement H).versions s.placed.by.versions s.placed.versions_tell;
-      segments_tell = each-append (SegmentTells (flushed H k f)) (placement H).segments (flushed_segment (suc (length H)) f ∷ [])
-          (segments_kept H (entry_of k (Flush f)) (λ n. refl) (placement H).segments s.placed.by.segments s.placed.segments_tell)
-          (new_spots_tell, tt);
-      old = λ r n from to.
-          omega (arith,
-              ended_before (suc (length H)) r n (taken H f) (omega arith) (placement H).versions,
-              total-append (λ g. cond (is_alive r g) (count_spots (is_unmarked r) n g.spots) 0) (placement H).segments (flushed_segment (suc (length H)) f ∷ []),
-              unborn r (count_spots (is_unmarked r) n (spots_of H f)) (omega arith));
-      now = flush_now;
-      horizon_rises = omega arith;
-      horizon_by = omega (arith, s.placed.horizon_by);
-      named = each-append (λ g. g.number ≤ f.seg) (placement H).segments (flushed_segment (suc (length H)) f ∷ [])
-          (each_weaker (λ g. g.number ≤ last_segment H) (λ g. g.number ≤ f.seg) (λ g le. omega (arith, fits.number)) (placement H).segments s.placed.named)
-          (omega arith, tt) })
+    by = record {
+      versions = ended_by H (taken H f) (placement H).versions s.placed.by.versions;
+      segments = each-append (SegmentBy (suc (length H))) (placement H).segments (flushed_segment (suc (length H)) f ∷ [])
+          (each_weaker (SegmentBy (length H)) (SegmentBy (suc (length H))) (segment_by_more (length H) (suc (length H)) (omega arith)) (placement H).segments s.placed.by.segments)
+          (record { base = omega (arith, fits.base); born = omega arith; died = tt; marks = new_spots_by }, tt);
+    };
+    versions_tell = ended_tell H (entry_of k (Flush f)) (taken H f) (λ n other. refl) (placement H).versions s.placed.by.versions s.placed.versions_tell;
+    segments_tell = each-append (SegmentTells (flushed H k f)) (placement H).segments (flushed_segment (suc (length H)) f ∷ [])
+        (segments_kept H (entry_of k (Flush f)) (λ n. refl) (placement H).segments s.placed.by.segments s.placed.segments_tell)
+        (new_spots_tell, tt);
+    old = λ r n from to.
+        omega (
+          arith,
+          ended_before (suc (length H)) r n (taken H f) (omega arith) (placement H).versions,
+          total-append (λ g. cond (is_alive r g) (count_spots (is_unmarked r) n g.spots) 0) (placement H).segments (flushed_segment (suc (length H)) f ∷ []),
+          unborn r (count_spots (is_unmarked r) n (spots_of H f)) (omega arith),
+        );
+    now = flush_now;
+    horizon_rises = omega arith;
+    horizon_by = omega (arith, s.placed.horizon_by);
+    named = each-append (λ g. g.number ≤ f.seg) (placement H).segments (flushed_segment (suc (length H)) f ∷ [])
+        (each_weaker (λ g. g.number ≤ last_segment H) (λ g. g.number ≤ f.seg) (λ g le. omega (arith, fits.number)) (placement H).segments s.placed.named)
+        (omega arith, tt);
+  })
     where
       unborn : (r m : ℕ) → r ≤ length H → cond (is_alive r (flushed_segment (suc (length H)) f)) m 0 ≡ 0
       unborn r m le = ap (λ b. cond (b && true) m 0) (lt-leb (suc (length H)) r (omega arith))
@@ -185,19 +205,22 @@ module _ (schema : Schema) (options : Options) (H : History) (k : ℕ) (f : Flus
   flush_keeps : (j n : ℕ) → holds H j n ≡ true → lives (placement H).versions n ≡ true → lives (after_flush (suc (length H)) f (placement H)).versions n ≡ true
   flush_keeps j n held e =
       counts_any (λ v. v.id == n && is_living v) (ended (suc (length H)) (taken H f) (placement H).versions)
-          (omega (arith,
-              ended_now (suc (length H)) n (taken H f) (placement H).versions ∙ cond-false (taken H f n) 0 (count_versions is_living n (placement H).versions) (left),
-              any_counts (λ v. v.id == n && is_living v) (placement H).versions e))
+      (omega (
+        arith,
+        ended_now (suc (length H)) n (taken H f) (placement H).versions ∙ cond-false (taken H f n) 0 (count_versions is_living n (placement H).versions) (left),
+        any_counts (λ v. v.id == n && is_living v) (placement H).versions e,
+      ))
     where
       left : taken H f n ≡ false
       left = false_from_ne_true (taken H f n) (λ t.
           both_ways (is_held H n)
-              (not-true (is_held H n) (and_parts (lives_since f.base (placement H).versions n) (not (is_held H n)) (taken_can n t)).1)
-              (held_by_session H j n (s.held.sessions j n held) held))
+          (not-true (is_held H n) (and_parts (lives_since f.base (placement H).versions n) (not (is_held H n)) (taken_can n t)).1)
+          (held_by_session H j n (s.held.sessions j n held) held))
 
   pub flush_sound : IsSound (flushed H k f)
   flush_sound = record {
-      held = held_kept H (entry_of k (Flush f)) (placement H) (after_flush (suc (length H)) f (placement H)) s.held refl refl
-          (shrinks_from H k (Flush f) (λ j n e. e)) flush_keeps;
-      placed = flush_placed;
-      pinned = pinned_kept H k (Flush f) (placement H) (λ o t. refl) s.pinned }
+    held = held_kept H (entry_of k (Flush f)) (placement H) (after_flush (suc (length H)) f (placement H)) s.held refl refl
+        (shrinks_from H k (Flush f) (λ j n e. e)) flush_keeps;
+    placed = flush_placed;
+    pinned = pinned_kept H k (Flush f) (placement H) (λ o t. refl) s.pinned;
+  }

@@ -11,5 +11,5 @@ pub length-upto : (H : History) (r : ℕ) → r ≤ length H → length (upto r 
 length-upto [] r le = omega arith
 length-upto (H ▷ e) r le =
     ⊎_elim (λ lt. ap length (upto_all r (H ▷ e) lt) ∙ omega arith)
-        (λ old. ap length (upto_past r H e old) ∙ length-upto H r old)
-        (cases_lt (length H) r)
+    (λ old. ap length (upto_past r H e old) ∙ length-upto H r old)
+    (cases_lt (length H) r)

@@ -11,8 +11,8 @@ any_in_range : (p : ℕ → Bool) (a n j : ℕ) → a ≤ j → j < a + n → p 
 any_in_range p a zero j from to e = absurd (omega arith)
 any_in_range p a (suc n) j from to e =
     ⊎_elim (λ here. or_left _ _ (ap p here ∙ e))
-        (λ later. or_right (p a) _ (any_in_range p (a + 1) n j (omega (arith, above later)) (omega arith) e))
-        (cases_eq a j)
+    (λ later. or_right (p a) _ (any_in_range p (a + 1) n j (omega (arith, above later)) (omega arith) e))
+    (cases_eq a j)
   where
     above : (a ≡ j → ⊥) → a < j
     above ne = omega arith
@@ -33,10 +33,10 @@ pub holder_is : (H : History) (k j n : ℕ) → is_held_by_other H k n ≡ false
 unfolding is_held_by_other
 holder_is H k j n none session e =
     ⊎_elim (λ same. same)
-        (λ other. absurd (both_ways _ none
-            (some_session (λ i. not (i == k) && holds H i n) j session
-                (and_from _ _ (not_from_false _ (ne_eqb j k other)) e))))
-        (cases_eq j k)
+    (λ other. absurd (both_ways _ none
+    (some_session (λ i. not (i == k) && holds H i n) j session
+    (and_from _ _ (not_from_false _ (ne_eqb j k other)) e))))
+    (cases_eq j k)
 
 -- what holds of the number of each change holds of the numbers that they touch
 pub touched_has : (q : ℕ → Bool) (changes : List Change) (n : ℕ) → list_all (λ c. q (number_of c)) changes ≡ true → touches changes n ≡ true → q n ≡ true
@@ -44,5 +44,5 @@ touched_has q [] n all t = absurd (false≢true t)
 touched_has q (c ∷ changes) n all t =
     let both = and_parts _ _ all in
     ⊎_elim (λ here. ap q (sym (eqb-true (number_of c) n here)) ∙ both.0)
-        (λ later. touched_has q changes n both.1 later)
-        (or_cases _ _ t)
+    (λ later. touched_has q changes n both.1 later)
+    (or_cases _ _ t)

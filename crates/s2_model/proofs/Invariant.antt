@@ -83,38 +83,38 @@ pub version_tells_kept : (H : History) (e : Entry) (v : Version) → VersionBy (
     → VersionTells H v → VersionTells (H ▷ e) v
 version_tells_kept H e v by same tells r le seen =
     old_or_new H e r le (row_then (H ▷ e) r v.id ≡ Some v.row)
-        (λ old. row_then_old H e r v.id old ∙ tells r old seen)
-        (λ new.
-            let living : is_living v ≡ true = sym (visible_living (length H) r v by (omega arith)) ∙ seen in
-            let counted : is_visible (length H) v ≡ true = visible_living (length H) (length H) v by (omega arith) ∙ living in
-            ap (λ G. row_at (state G) v.id) (upto_all r (H ▷ e) (omega arith))
-            ∙ same living ∙ sym (row_then_now H v.id) ∙ tells (length H) (omega arith) counted)
+    (λ old. row_then_old H e r v.id old ∙ tells r old seen)
+    (λ new.
+    let living : is_living v ≡ true = sym (visible_living (length H) r v by (omega arith)) ∙ seen in
+    let counted : is_visible (length H) v ≡ true = visible_living (length H) (length H) v by (omega arith) ∙ living in
+    ap (λ G. row_at (state G) v.id) (upto_all r (H ▷ e) (omega arith))
+    ∙ same living ∙ sym (row_then_now H v.id) ∙ tells (length H) (omega arith) counted)
 
 -- a version that the entry ends
 pub version_tells_ended : (H : History) (e : Entry) (v : Version) → VersionBy (length H) v
     → VersionTells H v → VersionTells (H ▷ e) (end_version (suc (length H)) v)
 version_tells_ended H e v by tells r le seen =
     old_or_new H e r le (row_then (H ▷ e) r v.id ≡ Some v.row)
-        (λ old.
-            let before : is_visible r v ≡ true =
-                sym (ap (λ d. nat_le v.begin r && not d) (done_set_before r (suc (length H)) v.stop (omega arith))) ∙ seen in
-            row_then_old H e r v.id old ∙ tells r old before)
-        (λ new.
-            let over : is_done r (set_at (suc (length H)) v.stop) ≡ true =
-                ap (λ q. is_done q (set_at (suc (length H)) v.stop)) new
-                ∙ done_set_now (suc (length H)) v.stop (by_more (length H) (suc (length H)) v.stop (omega arith) by.stop) in
-            let both = and_parts (nat_le v.begin r) (not (is_done r (set_at (suc (length H)) v.stop))) seen in
-            absurd (false≢true (sym (ap not over) ∙ both.1)))
+    (λ old.
+    let before : is_visible r v ≡ true =
+    sym (ap (λ d. nat_le v.begin r && not d) (done_set_before r (suc (length H)) v.stop (omega arith))) ∙ seen in
+    row_then_old H e r v.id old ∙ tells r old before)
+    (λ new.
+    let over : is_done r (set_at (suc (length H)) v.stop) ≡ true =
+    ap (λ q. is_done q (set_at (suc (length H)) v.stop)) new
+    ∙ done_set_now (suc (length H)) v.stop (by_more (length H) (suc (length H)) v.stop (omega arith) by.stop) in
+    let both = and_parts (nat_le v.begin r) (not (is_done r (set_at (suc (length H)) v.stop))) seen in
+    absurd (false≢true (sym (ap not over) ∙ both.1)))
 
 -- a version that the entry begins
 pub version_tells_new : (H : History) (e : Entry) (v : Version) → v.begin ≡ suc (length H)
     → row_at (state (H ▷ e)) v.id ≡ Some v.row → VersionTells (H ▷ e) v
 version_tells_new H e v at has r le seen =
     old_or_new H e r le (row_then (H ▷ e) r v.id ≡ Some v.row)
-        (λ old.
-            let both = and_parts (nat_le v.begin r) (not (is_done r v.stop)) seen in
-            absurd (false≢true (sym (lt-leb v.begin r (omega (arith, at))) ∙ both.0)))
-        (λ new. ap (λ G. row_at (state G) v.id) (upto_all r (H ▷ e) (omega arith)) ∙ has)
+    (λ old.
+    let both = and_parts (nat_le v.begin r) (not (is_done r v.stop)) seen in
+    absurd (false≢true (sym (lt-leb v.begin r (omega (arith, at))) ∙ both.0)))
+    (λ new. ap (λ G. row_at (state G) v.id) (upto_all r (H ▷ e) (omega arith)) ∙ has)
 
 lasts_old : (H : History) (e : Entry) (b n r : ℕ) → r ≤ length H → Lasts H b n r → Lasts (H ▷ e) b n r
 lasts_old H e b n r le lasts q from to =
@@ -125,10 +125,10 @@ pub lasts_new : (H : History) (e : Entry) (b n : ℕ) → b ≤ length H → row
     → Lasts H b n (length H) → Lasts (H ▷ e) b n (suc (length H))
 lasts_new H e b n le same lasts q from to =
     old_or_new H e q to (row_then (H ▷ e) q n ≡ row_then (H ▷ e) b n)
-        (λ old. row_then_old H e q n old ∙ lasts q from old ∙ sym (row_then_old H e b n le))
-        (λ new.
-            ap (λ G. row_at (state G) n) (upto_all q (H ▷ e) (omega arith))
-            ∙ same ∙ sym (row_then_now H n) ∙ lasts (length H) le (omega arith) ∙ sym (row_then_old H e b n le))
+    (λ old. row_then_old H e q n old ∙ lasts q from old ∙ sym (row_then_old H e b n le))
+    (λ new.
+    ap (λ G. row_at (state G) n) (upto_all q (H ▷ e) (omega arith))
+    ∙ same ∙ sym (row_then_now H n) ∙ lasts (length H) le (omega arith) ∙ sym (row_then_old H e b n le))
 
 -- a place that stays, where the row of its number is the same as before if it still counts
 pub spot_tells_kept : (H : History) (e : Entry) (s : Segment) (x : Spot) → SegmentBy (length H) s → IsBy (length H) x.mark
@@ -136,44 +136,44 @@ pub spot_tells_kept : (H : History) (e : Entry) (s : Segment) (x : Spot) → Seg
     → SpotTells H s x → SpotTells (H ▷ e) s x
 spot_tells_kept H e s x by mark same tells r le alive unmarked =
     old_or_new H e r le (Lasts (H ▷ e) s.base x.id r)
-        (λ old. lasts_old H e s.base x.id r old (tells r old alive unmarked))
-        (λ new.
-            let used : is_in_use s ≡ true = sym (alive_in_use (length H) r s by (omega arith)) ∙ alive in
-            let free : is_free x ≡ true = sym (unmarked_free (length H) r x mark (omega arith)) ∙ unmarked in
-            let counted = tells (length H) (omega arith)
-                (alive_in_use (length H) (length H) s by (omega arith) ∙ used)
-                (unmarked_free (length H) (length H) x mark (omega arith) ∙ free) in
-            subst (λ q. Lasts (H ▷ e) s.base x.id q) (sym new)
-                (lasts_new H e s.base x.id (omega (arith, by.base, by.born)) (same used free) counted))
+    (λ old. lasts_old H e s.base x.id r old (tells r old alive unmarked))
+    (λ new.
+    let used : is_in_use s ≡ true = sym (alive_in_use (length H) r s by (omega arith)) ∙ alive in
+    let free : is_free x ≡ true = sym (unmarked_free (length H) r x mark (omega arith)) ∙ unmarked in
+    let counted = tells (length H) (omega arith)
+    (alive_in_use (length H) (length H) s by (omega arith) ∙ used)
+    (unmarked_free (length H) (length H) x mark (omega arith) ∙ free) in
+    subst (λ q. Lasts (H ▷ e) s.base x.id q) (sym new)
+    (lasts_new H e s.base x.id (omega (arith, by.base, by.born)) (same used free) counted))
 
 -- a place that the entry marks
 pub spot_tells_marked : (H : History) (e : Entry) (s : Segment) (x : Spot) → IsBy (length H) x.mark
     → SpotTells H s x → SpotTells (H ▷ e) s (set_mark (suc (length H)) x)
 spot_tells_marked H e s x mark tells r le alive unmarked =
     old_or_new H e r le (Lasts (H ▷ e) s.base x.id r)
-        (λ old. lasts_old H e s.base x.id r old
-            (tells r old alive (sym (ap not (done_set_before r (suc (length H)) x.mark (omega arith))) ∙ unmarked)))
-        (λ new.
-            let over : is_done r (set_at (suc (length H)) x.mark) ≡ true =
-                ap (λ q. is_done q (set_at (suc (length H)) x.mark)) new
-                ∙ done_set_now (suc (length H)) x.mark (by_more (length H) (suc (length H)) x.mark (omega arith) mark) in
-            absurd (false≢true (sym (ap not over) ∙ unmarked)))
+    (λ old. lasts_old H e s.base x.id r old
+    (tells r old alive (sym (ap not (done_set_before r (suc (length H)) x.mark (omega arith))) ∙ unmarked)))
+    (λ new.
+    let over : is_done r (set_at (suc (length H)) x.mark) ≡ true =
+    ap (λ q. is_done q (set_at (suc (length H)) x.mark)) new
+    ∙ done_set_now (suc (length H)) x.mark (by_more (length H) (suc (length H)) x.mark (omega arith) mark) in
+    absurd (false≢true (sym (ap not over) ∙ unmarked)))
 
 -- a place in a segment that the entry lets die
 pub spot_tells_died : (H : History) (e : Entry) (s : Segment) (x : Spot) → SegmentBy (length H) s
     → SpotTells H s x → SpotTells (H ▷ e) (end_segment (suc (length H)) s) x
 spot_tells_died H e s x by tells r le alive unmarked =
     old_or_new H e r le (Lasts (H ▷ e) s.base x.id r)
-        (λ old. lasts_old H e s.base x.id r old
-            (tells r old
-                (sym (ap (λ d. nat_le s.born r && not d) (done_set_before r (suc (length H)) s.died (omega arith))) ∙ alive)
-                unmarked))
-        (λ new.
-            let over : is_done r (set_at (suc (length H)) s.died) ≡ true =
-                ap (λ q. is_done q (set_at (suc (length H)) s.died)) new
-                ∙ done_set_now (suc (length H)) s.died (by_more (length H) (suc (length H)) s.died (omega arith) by.died) in
-            let both = and_parts (nat_le s.born r) (not (is_done r (set_at (suc (length H)) s.died))) alive in
-            absurd (false≢true (sym (ap not over) ∙ both.1)))
+    (λ old. lasts_old H e s.base x.id r old
+    (tells r old
+    (sym (ap (λ d. nat_le s.born r && not d) (done_set_before r (suc (length H)) s.died (omega arith))) ∙ alive)
+    unmarked))
+    (λ new.
+    let over : is_done r (set_at (suc (length H)) s.died) ≡ true =
+    ap (λ q. is_done q (set_at (suc (length H)) s.died)) new
+    ∙ done_set_now (suc (length H)) s.died (by_more (length H) (suc (length H)) s.died (omega arith) by.died) in
+    let both = and_parts (nat_le s.born r) (not (is_done r (set_at (suc (length H)) s.died))) alive in
+    absurd (false≢true (sym (ap not over) ∙ both.1)))
 
 -- a place in a segment that the entry bears
 pub spot_tells_new : (H : History) (e : Entry) (s : Segment) (x : Spot) → s.born ≡ suc (length H)
@@ -181,12 +181,12 @@ pub spot_tells_new : (H : History) (e : Entry) (s : Segment) (x : Spot) → s.bo
     → SpotTells (H ▷ e) s x
 spot_tells_new H e s x born lasts mark r le alive unmarked =
     old_or_new H e r le (Lasts (H ▷ e) s.base x.id r)
-        (λ old.
-            let both = and_parts (nat_le s.born r) (not (is_done r s.died)) alive in
-            absurd (false≢true (sym (lt-leb s.born r (omega (arith, born))) ∙ both.0)))
-        (λ new.
-            subst (λ q. Lasts (H ▷ e) s.base x.id q) (sym new)
-                (lasts (sym (unmarked_free (suc (length H)) r x mark (omega arith)) ∙ unmarked)))
+    (λ old.
+    let both = and_parts (nat_le s.born r) (not (is_done r s.died)) alive in
+    absurd (false≢true (sym (lt-leb s.born r (omega (arith, born))) ∙ both.0)))
+    (λ new.
+    subst (λ q. Lasts (H ▷ e) s.base x.id q) (sym new)
+    (lasts (sym (unmarked_free (suc (length H)) r x mark (omega arith)) ∙ unmarked)))
 
 -- an entry after which the placement is P': what is to be shown of it
 pub record StepOf (H : History) (e : Entry) (P P' : Placement) : Type 0 where
@@ -201,12 +201,13 @@ pub record StepOf (H : History) (e : Entry) (P P' : Placement) : Type 0 where
 
 pub placed_step : (H : History) (e : Entry) (P P' : Placement) → IsPlacedWell H P → StepOf H e P P' → IsPlacedWell (H ▷ e) P'
 placed_step H e P P' w step = record {
-    by = step.by;
-    versions_tell = step.versions_tell;
-    segments_tell = step.segments_tell;
-    numbers = λ r n from to. old_or_new H e r to (count_at r n P' ≡ size (row_then (H ▷ e) r n))
-        (λ old. step.old r n from old ∙ w.numbers r n (omega (arith, step.horizon_rises)) old ∙ ap size (sym (row_then_old H e r n old)))
-        (λ new. count_at_now (suc (length H)) r n (omega arith) P' step.by ∙ step.now n
-            ∙ ap (λ G. size (row_at (state G) n)) (sym (upto_all r (H ▷ e) (omega arith))));
-    horizon_by = step.horizon_by;
-    named = step.named }
+  by = step.by;
+  versions_tell = step.versions_tell;
+  segments_tell = step.segments_tell;
+  numbers = λ r n from to. old_or_new H e r to (count_at r n P' ≡ size (row_then (H ▷ e) r n))
+      (λ old. step.old r n from old ∙ w.numbers r n (omega (arith, step.horizon_rises)) old ∙ ap size (sym (row_then_old H e r n old)))
+      (λ new. count_at_now (suc (length H)) r n (omega arith) P' step.by ∙ step.now n
+      ∙ ap (λ G. size (row_at (state G) n)) (sym (upto_all r (H ▷ e) (omega arith))));
+  horizon_by = step.horizon_by;
+  named = step.named;
+}

@@ -112,10 +112,11 @@ counts_any p (x ∷ xs) le = go (p x) (counts_any p xs) le
 -- each part is no more than the whole
 pub each_part : {X : Type 0} (f : ℕ → X → ℕ) (xs : List X) → Each (λ x. (n : ℕ) → f n x ≤ total (f n) xs) xs
 each_part f [] = tt
-each_part f (x ∷ xs) =
-    (λ n. omega arith,
-     each_weaker (λ y. (n : ℕ) → f n y ≤ total (f n) xs) (λ y. (n : ℕ) → f n y ≤ f n x + total (f n) xs)
-        (λ y le n. omega (arith, le n)) xs (each_part f xs))
+each_part f (x ∷ xs) = (
+  λ n. omega arith,
+  each_weaker (λ y. (n : ℕ) → f n y ≤ total (f n) xs) (λ y. (n : ℕ) → f n y ≤ f n x + total (f n) xs)
+      (λ y le n. omega (arith, le n)) xs (each_part f xs),
+)
 
 pub any_weaker : {X : Type 0} (p q : X → Bool) → ((x : X) → p x ≡ true → q x ≡ true) → (xs : List X) → list_any p xs ≡ true → list_any q xs ≡ true
 any_weaker p q step [] e = e

@@ -50,7 +50,6 @@ free_rests t false e = absurd (false≢true e)
 
 module _ (schema : Schema) (options : Options) (H : History) (k : ℕ) (m : MergeNote) (fit : AllFit schema options H) (sounds : (r : ℕ) → IsSound (upto r H))
     (s : IsSound H) (fits : MergeFits schema options H k m) where
-
   merged_is : merged_segments (suc (length H)) m
       ≡ map (merged_as (suc (length H)) m.base (carried H m)) (numbered (next_segment H) (pieces_of schema options H m))
   merged_is =
@@ -66,10 +65,13 @@ module _ (schema : Schema) (options : Options) (H : History) (k : ℕ) (m : Merg
 
   base_once : (n : ℕ) → rests_in m.olds (placement (upto m.base H)).segments n ≡ true → size (row_at (state (upto m.base H)) n) ≡ 1
   base_once n e =
-      omega (arith, rests_counts m.olds n (placement (upto m.base H)).segments e,
-          died_count (suc (length H)) m.olds n (placement (upto m.base H)).segments,
-          now_from_numbers (upto m.base H) (placement (upto m.base H)) (sounds m.base).placed n,
-          size_le (row_at (state (upto m.base H)) n))
+      omega (
+        arith,
+        rests_counts m.olds n (placement (upto m.base H)).segments e,
+        died_count (suc (length H)) m.olds n (placement (upto m.base H)).segments,
+        now_from_numbers (upto m.base H) (placement (upto m.base H)) (sounds m.base).placed n,
+        size_le (row_at (state (upto m.base H)) n),
+      )
 
   written_once : (n : ℕ) → rests_in m.olds (placement H).segments n ≡ true → count_ids n (written_ids schema H m) ≡ 1
   written_once n e =
@@ -93,19 +95,27 @@ module _ (schema : Schema) (options : Options) (H : History) (k : ℕ) (m : Merg
           → cond (not (rests_in m.olds (placement H).segments n)) 0 (count_ids n (written_ids schema H m)) ≡ count_old (contains_number m.olds) n (placement H).segments
       go true e =
           cond-false (carried H m n) 0 (count_ids n (written_ids schema H m)) (ap not e)
-          ∙ omega (arith, written_once n e, rests_counts m.olds n (placement H).segments e,
-              died_count (suc (length H)) m.olds n (placement H).segments,
-              now_from_numbers H (placement H) s.placed n, size_le (row_at (state H) n))
+          ∙ omega (
+            arith,
+            written_once n e,
+            rests_counts m.olds n (placement H).segments e,
+            died_count (suc (length H)) m.olds n (placement H).segments,
+            now_from_numbers H (placement H) s.placed n,
+            size_le (row_at (state H) n),
+          )
       go false e =
           cond-true (carried H m n) 0 (count_ids n (written_ids schema H m)) (ap not e)
           ∙ sym (rests_none m.olds n (placement H).segments e)
 
   merge_now : (n : ℕ) → count_now n (after_merge (suc (length H)) m (placement H)) ≡ size (row_at (state H) n)
   merge_now n =
-      omega (arith,
-          total-append (λ g. cond (is_in_use g) (count_spots is_free n g.spots) 0) (died_at (suc (length H)) m.olds (placement H).segments) (merged_segments (suc (length H)) m),
-          new_count n, died_count (suc (length H)) m.olds n (placement H).segments,
-          now_from_numbers H (placement H) s.placed n)
+      omega (
+        arith,
+        total-append (λ g. cond (is_in_use g) (count_spots is_free n g.spots) 0) (died_at (suc (length H)) m.olds (placement H).segments) (merged_segments (suc (length H)) m),
+        new_count n,
+        died_count (suc (length H)) m.olds n (placement H).segments,
+        now_from_numbers H (placement H) s.placed n,
+      )
 
   -- a row that rests in the inputs has been the same since the base
 
@@ -113,7 +123,7 @@ module _ (schema : Schema) (options : Options) (H : History) (k : ℕ) (m : Merg
       → is_free x ≡ true → Lasts (merged H k m) m.base x.id (suc (length H))
   spot_lasts g by le used x mark tells free =
       lasts_new H (entry_of k (Merge m)) m.base x.id fits.base refl
-          (λ q from to. since_base_of q (omega arith) to ∙ sym (since_base_of m.base le fits.base))
+      (λ q from to. since_base_of q (omega arith) to ∙ sym (since_base_of m.base le fits.base))
     where
       since_base_of : Lasts H g.base x.id (length H)
       since_base_of = tells (length H) (omega arith)
@@ -123,26 +133,26 @@ module _ (schema : Schema) (options : Options) (H : History) (k : ℕ) (m : Merg
   rest_lasts : (n : ℕ) → rests_in m.olds (placement H).segments n ≡ true → Lasts (merged H k m) m.base n (suc (length H))
   rest_lasts n e =
       each_any (λ g. (SegmentBy (length H) g × SegmentTells H g) × (contains_number m.olds g.number ≡ true → g.base ≤ m.base))
-          (rests_at (contains_number m.olds) n) (Lasts (merged H k m) m.base n (suc (length H)))
-          (λ g b r. in_segment g b.0.0 b.0.1 (b.1 (and_parts _ _ (and_parts _ _ r).0).0) (and_parts _ _ (and_parts _ _ r).0).1 (and_parts _ _ r).1)
-          (placement H).segments
-          (each_both (λ g. SegmentBy (length H) g × SegmentTells H g) (λ g. contains_number m.olds g.number ≡ true → g.base ≤ m.base)
-              (λ g. (SegmentBy (length H) g × SegmentTells H g) × (contains_number m.olds g.number ≡ true → g.base ≤ m.base)) (λ g a b. (a, b))
-              (placement H).segments
-              (each_both (SegmentBy (length H)) (SegmentTells H) (λ g. SegmentBy (length H) g × SegmentTells H g) (λ g a b. (a, b))
-                  (placement H).segments s.placed.by.segments s.placed.segments_tell)
-              since.bases)
-          e
+      (rests_at (contains_number m.olds) n) (Lasts (merged H k m) m.base n (suc (length H)))
+      (λ g b r. in_segment g b.0.0 b.0.1 (b.1 (and_parts _ _ (and_parts _ _ r).0).0) (and_parts _ _ (and_parts _ _ r).0).1 (and_parts _ _ r).1)
+      (placement H).segments
+      (each_both (λ g. SegmentBy (length H) g × SegmentTells H g) (λ g. contains_number m.olds g.number ≡ true → g.base ≤ m.base)
+      (λ g. (SegmentBy (length H) g × SegmentTells H g) × (contains_number m.olds g.number ≡ true → g.base ≤ m.base)) (λ g a b. (a, b))
+      (placement H).segments
+      (each_both (SegmentBy (length H)) (SegmentTells H) (λ g. SegmentBy (length H) g × SegmentTells H g) (λ g a b. (a, b))
+      (placement H).segments s.placed.by.segments s.placed.segments_tell)
+      since.bases)
+      e
     where
       in_segment : (g : Segment) → SegmentBy (length H) g → SegmentTells H g → g.base ≤ m.base → is_in_use g ≡ true → has_free n g.spots ≡ true
           → Lasts (merged H k m) m.base n (suc (length H))
       in_segment g by tells le used has =
           each_any (λ x. IsBy (length H) x.mark × SpotTells H g x) (λ x. x.id == n && is_free x) (Lasts (merged H k m) m.base n (suc (length H)))
-              (λ x b r. subst (λ i. Lasts (merged H k m) m.base i (suc (length H))) (eqb-true x.id n (and_parts (x.id == n) (is_free x) r).0)
-                  (spot_lasts g by le used x b.0 b.1 (and_parts (x.id == n) (is_free x) r).1))
-              g.spots
-              (each_both (λ x. IsBy (length H) x.mark) (SpotTells H g) (λ x. IsBy (length H) x.mark × SpotTells H g x) (λ x a b. (a, b)) g.spots by.marks tells)
-              has
+          (λ x b r. subst (λ i. Lasts (merged H k m) m.base i (suc (length H))) (eqb-true x.id n (and_parts (x.id == n) (is_free x) r).0)
+          (spot_lasts g by le used x b.0 b.1 (and_parts (x.id == n) (is_free x) r).1))
+          g.spots
+          (each_both (λ x. IsBy (length H) x.mark) (SpotTells H g) (λ x. IsBy (length H) x.mark × SpotTells H g x) (λ x a b. (a, b)) g.spots by.marks tells)
+          has
 
   -- the step
 
@@ -151,6 +161,7 @@ module _ (schema : Schema) (options : Options) (H : History) (k : ℕ) (m : Merg
     where
       more : SegmentBy (suc (length H)) g
       more = segment_by_more (length H) (suc (length H)) (omega arith) g b
+
       go : (c : Bool) → SegmentBy (suc (length H)) (cond c (end_segment (suc (length H)) g) g)
       go true = record { base = more.base; born = more.born; died = by_set (length H) (suc (length H)) g.died (omega arith) b.died; marks = more.marks }
       go false = more
@@ -164,57 +175,61 @@ module _ (schema : Schema) (options : Options) (H : History) (k : ℕ) (m : Merg
 
   new_by : (new : ℕ × List ℕ) → SegmentBy (suc (length H)) (merged_as (suc (length H)) m.base (carried H m) new)
   new_by new = record {
-      base = omega (arith, fits.base);
-      born = omega arith;
-      died = tt;
-      marks = each-map (λ n. Unit {0}) (λ x. IsBy (suc (length H)) x.mark) (spot_of (suc (length H)) (carried H m)) (λ n u. spot_by (suc (length H)) (carried H m n)) new.1 (each_all (λ n. Unit {0}) (λ n. tt) new.1) }
+    base = omega (arith, fits.base);
+    born = omega arith;
+    died = tt;
+    marks = each-map (λ n. Unit {0}) (λ x. IsBy (suc (length H)) x.mark) (spot_of (suc (length H)) (carried H m)) (λ n u. spot_by (suc (length H)) (carried H m n)) new.1 (each_all (λ n. Unit {0}) (λ n. tt) new.1);
+  }
 
   new_tells : (new : ℕ × List ℕ) → SegmentTells (merged H k m) (merged_as (suc (length H)) m.base (carried H m) new)
   new_tells new =
       each-map (λ n. Unit {0}) (SpotTells (merged H k m) (merged_as (suc (length H)) m.base (carried H m) new)) (spot_of (suc (length H)) (carried H m))
-          (λ n u. spot_tells_new H (entry_of k (Merge m)) (merged_as (suc (length H)) m.base (carried H m) new) (spot_of (suc (length H)) (carried H m) n) refl
-              (λ free. rest_lasts n (free_rests (suc (length H)) (rests_in m.olds (placement H).segments n) free))
-              (spot_by (suc (length H)) (carried H m n)))
-          new.1 (each_all (λ n. Unit {0}) (λ n. tt) new.1)
+      (λ n u. spot_tells_new H (entry_of k (Merge m)) (merged_as (suc (length H)) m.base (carried H m) new) (spot_of (suc (length H)) (carried H m) n) refl
+      (λ free. rest_lasts n (free_rests (suc (length H)) (rests_in m.olds (placement H).segments n) free))
+      (spot_by (suc (length H)) (carried H m n)))
+      new.1 (each_all (λ n. Unit {0}) (λ n. tt) new.1)
 
   each_new : (Q : Segment → Type 0) → ((new : ℕ × List ℕ) → Q (merged_as (suc (length H)) m.base (carried H m) new)) → Each Q (merged_segments (suc (length H)) m)
   each_new Q all =
       subst (Each Q) (sym merged_is)
-          (each-map (λ new. Unit {0}) Q (merged_as (suc (length H)) m.base (carried H m)) (λ new u. all new)
-              (numbered (next_segment H) (pieces_of schema options H m)) (each_all (λ new. Unit {0}) (λ new. tt) (numbered (next_segment H) (pieces_of schema options H m))))
+      (each-map (λ new. Unit {0}) Q (merged_as (suc (length H)) m.base (carried H m)) (λ new u. all new)
+      (numbered (next_segment H) (pieces_of schema options H m)) (each_all (λ new. Unit {0}) (λ new. tt) (numbered (next_segment H) (pieces_of schema options H m))))
 
   merge_old : (r n : ℕ) → r ≤ length H → count_segments (is_alive r) (is_unmarked r) n (died_at (suc (length H)) m.olds (placement H).segments ++ merged_segments (suc (length H)) m)
       ≡ count_segments (is_alive r) (is_unmarked r) n (placement H).segments
   merge_old r n le =
-      omega (arith,
-          total-append (λ g. cond (is_alive r g) (count_spots (is_unmarked r) n g.spots) 0) (died_at (suc (length H)) m.olds (placement H).segments) (merged_segments (suc (length H)) m),
-          total-map (λ g. cond (is_alive r g) (count_spots (is_unmarked r) n g.spots) 0) (dead (suc (length H)) m) (placement H).segments
-          ∙ total_same (λ g. cond (is_alive r (dead (suc (length H)) m g)) (count_spots (is_unmarked r) n (dead (suc (length H)) m g).spots) 0)
-              (λ g. cond (is_alive r g) (count_spots (is_unmarked r) n g.spots) 0) (placement H).segments
-              (each_all _ (λ g. same g (contains_number m.olds g.number)) (placement H).segments),
-          total_zero (λ g. cond (is_alive r g) (count_spots (is_unmarked r) n g.spots) 0) (merged_segments (suc (length H)) m)
-              (each_new (λ g. cond (is_alive r g) (count_spots (is_unmarked r) n g.spots) 0 ≡ 0) unborn))
+      omega (
+        arith,
+        total-append (λ g. cond (is_alive r g) (count_spots (is_unmarked r) n g.spots) 0) (died_at (suc (length H)) m.olds (placement H).segments) (merged_segments (suc (length H)) m),
+        total-map (λ g. cond (is_alive r g) (count_spots (is_unmarked r) n g.spots) 0) (dead (suc (length H)) m) (placement H).segments
+            ∙ total_same (λ g. cond (is_alive r (dead (suc (length H)) m g)) (count_spots (is_unmarked r) n (dead (suc (length H)) m g).spots) 0)
+            (λ g. cond (is_alive r g) (count_spots (is_unmarked r) n g.spots) 0) (placement H).segments
+            (each_all _ (λ g. same g (contains_number m.olds g.number)) (placement H).segments),
+        total_zero (λ g. cond (is_alive r g) (count_spots (is_unmarked r) n g.spots) 0) (merged_segments (suc (length H)) m)
+            (each_new (λ g. cond (is_alive r g) (count_spots (is_unmarked r) n g.spots) 0 ≡ 0) unborn),
+      )
     where
       same : (g : Segment) (c : Bool)
           → cond (is_alive r (cond c (end_segment (suc (length H)) g) g)) (count_spots (is_unmarked r) n (cond c (end_segment (suc (length H)) g) g).spots) 0
-            ≡ cond (is_alive r g) (count_spots (is_unmarked r) n g.spots) 0
+          ≡ cond (is_alive r g) (count_spots (is_unmarked r) n g.spots) 0
       same g true = ap (λ d. cond (nat_le g.born r && not d) (count_spots (is_unmarked r) n g.spots) 0) (done_set_before r (suc (length H)) g.died (omega arith))
       same g false = refl
+
       unborn : (new : ℕ × List ℕ) → cond (is_alive r (merged_as (suc (length H)) m.base (carried H m) new)) (count_spots (is_unmarked r) n (merged_as (suc (length H)) m.base (carried H m) new).spots) 0 ≡ 0
       unborn new = ap (λ b. cond (b && true) (count_spots (is_unmarked r) n (merged_as (suc (length H)) m.base (carried H m) new).spots) 0) (lt-leb (suc (length H)) r (omega arith))
 
   merge_named : Each (λ g. g.number ≤ last_number m.news (last_segment H)) (died_at (suc (length H)) m.olds (placement H).segments ++ merged_segments (suc (length H)) m)
   merge_named =
       each-append (λ g. g.number ≤ last_number m.news (last_segment H)) (died_at (suc (length H)) m.olds (placement H).segments) (merged_segments (suc (length H)) m)
-          (each-map (λ g. g.number ≤ last_segment H) (λ g. g.number ≤ last_number m.news (last_segment H)) (dead (suc (length H)) m)
-              (λ g le. old g (contains_number m.olds g.number) (omega (arith, last_rises schema options H k (Merge m) fits))) (placement H).segments s.placed.named)
-          (each-map (λ new. new.0 ≤ last_number m.news (last_segment H)) (λ g. g.number ≤ last_number m.news (last_segment H))
-              (λ new. new_segment (suc (length H)) new.0 m.base (new_spots (suc (length H)) (contains_place m.marked new.0) 0 new.1)) (λ new le. le) m.news
-              (subst (λ news. Each (λ new. new.0 ≤ last_number news (last_segment H)) news) (sym fits.news)
-                  (each_weaker (λ new. new.0 ≤ last_segment H + length (pieces_of schema options H m))
-                      (λ new. new.0 ≤ last_number (numbered (next_segment H) (pieces_of schema options H m)) (last_segment H))
-                      (λ new le. omega (arith, last_numbered (last_segment H) (pieces_of schema options H m)))
-                      (numbered (next_segment H) (pieces_of schema options H m)) (numbered_to (last_segment H) (pieces_of schema options H m)))))
+      (each-map (λ g. g.number ≤ last_segment H) (λ g. g.number ≤ last_number m.news (last_segment H)) (dead (suc (length H)) m)
+      (λ g le. old g (contains_number m.olds g.number) (omega (arith, last_rises schema options H k (Merge m) fits))) (placement H).segments s.placed.named)
+      (each-map (λ new. new.0 ≤ last_number m.news (last_segment H)) (λ g. g.number ≤ last_number m.news (last_segment H))
+      (λ new. new_segment (suc (length H)) new.0 m.base (new_spots (suc (length H)) (contains_place m.marked new.0) 0 new.1)) (λ new le. le) m.news
+      (subst (λ news. Each (λ new. new.0 ≤ last_number news (last_segment H)) news) (sym fits.news)
+      (each_weaker (λ new. new.0 ≤ last_segment H + length (pieces_of schema options H m))
+      (λ new. new.0 ≤ last_number (numbered (next_segment H) (pieces_of schema options H m)) (last_segment H))
+      (λ new le. omega (arith, last_numbered (last_segment H) (pieces_of schema options H m)))
+      (numbered (next_segment H) (pieces_of schema options H m)) (numbered_to (last_segment H) (pieces_of schema options H m)))))
     where
       old : (g : Segment) (c : Bool) → g.number ≤ last_number m.news (last_segment H) → (cond c (end_segment (suc (length H)) g) g).number ≤ last_number m.news (last_segment H)
       old g true le = le
@@ -222,26 +237,29 @@ module _ (schema : Schema) (options : Options) (H : History) (k : ℕ) (m : Merg
 
   merge_placed : IsPlacedWell (merged H k m) (after_merge (suc (length H)) m (placement H))
   merge_placed = placed_step H (entry_of k (Merge m)) (placement H) (after_merge (suc (length H)) m (placement H)) s.placed (record {
-      by = record {
-          versions = (placed_by_more (length H) (suc (length H)) (omega arith) (placement H) s.placed.by).versions;
-          segments = each-append (SegmentBy (suc (length H))) (died_at (suc (length H)) m.olds (placement H).segments) (merged_segments (suc (length H)) m)
-              (each-map (SegmentBy (length H)) (SegmentBy (suc (length H))) (dead (suc (length H)) m) old_by (placement H).segments s.placed.by.segments)
-              (each_new (SegmentBy (suc (length H))) new_by) };
-      versions_tell = versions_kept H (entry_of k (Merge m)) (λ n. refl) (placement H).versions s.placed.by.versions s.placed.versions_tell;
-      segments_tell = each-append (SegmentTells (merged H k m)) (died_at (suc (length H)) m.olds (placement H).segments) (merged_segments (suc (length H)) m)
-          (each-map (λ g. SegmentBy (length H) g × SegmentTells H g) (SegmentTells (merged H k m)) (dead (suc (length H)) m) (λ g b. old_tells g b.0 b.1) (placement H).segments
-              (each_both (SegmentBy (length H)) (SegmentTells H) (λ g. SegmentBy (length H) g × SegmentTells H g) (λ g a b. (a, b))
-                  (placement H).segments s.placed.by.segments s.placed.segments_tell))
-          (each_new (SegmentTells (merged H k m)) new_tells);
-      old = λ r n from to. ap (λ c. count_versions (is_visible r) n (placement H).versions + c) (merge_old r n to);
-      now = merge_now;
-      horizon_rises = omega arith;
-      horizon_by = omega (arith, s.placed.horizon_by);
-      named = merge_named })
+    by = record {
+      versions = (placed_by_more (length H) (suc (length H)) (omega arith) (placement H) s.placed.by).versions;
+      segments = each-append (SegmentBy (suc (length H))) (died_at (suc (length H)) m.olds (placement H).segments) (merged_segments (suc (length H)) m)
+          (each-map (SegmentBy (length H)) (SegmentBy (suc (length H))) (dead (suc (length H)) m) old_by (placement H).segments s.placed.by.segments)
+          (each_new (SegmentBy (suc (length H))) new_by);
+    };
+    versions_tell = versions_kept H (entry_of k (Merge m)) (λ n. refl) (placement H).versions s.placed.by.versions s.placed.versions_tell;
+    segments_tell = each-append (SegmentTells (merged H k m)) (died_at (suc (length H)) m.olds (placement H).segments) (merged_segments (suc (length H)) m)
+        (each-map (λ g. SegmentBy (length H) g × SegmentTells H g) (SegmentTells (merged H k m)) (dead (suc (length H)) m) (λ g b. old_tells g b.0 b.1) (placement H).segments
+        (each_both (SegmentBy (length H)) (SegmentTells H) (λ g. SegmentBy (length H) g × SegmentTells H g) (λ g a b. (a, b))
+        (placement H).segments s.placed.by.segments s.placed.segments_tell))
+        (each_new (SegmentTells (merged H k m)) new_tells);
+    old = λ r n from to. ap (λ c. count_versions (is_visible r) n (placement H).versions + c) (merge_old r n to);
+    now = merge_now;
+    horizon_rises = omega arith;
+    horizon_by = omega (arith, s.placed.horizon_by);
+    named = merge_named;
+  })
 
   pub merge_sound : IsSound (merged H k m)
   merge_sound = record {
-      held = held_kept H (entry_of k (Merge m)) (placement H) (after_merge (suc (length H)) m (placement H)) s.held refl refl
-          (shrinks_from H k (Merge m) (λ j n e. e)) (λ j n held e. e);
-      placed = merge_placed;
-      pinned = pinned_kept H k (Merge m) (placement H) (λ o t. refl) s.pinned }
+    held = held_kept H (entry_of k (Merge m)) (placement H) (after_merge (suc (length H)) m (placement H)) s.held refl refl
+        (shrinks_from H k (Merge m) (λ j n e. e)) (λ j n held e. e);
+    placed = merge_placed;
+    pinned = pinned_kept H k (Merge m) (placement H) (λ o t. refl) s.pinned;
+  }

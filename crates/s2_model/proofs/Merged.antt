@@ -51,7 +51,7 @@ carried_later : (test : ℕ → Bool) (s m o : ℕ) → s < m → (ids : List �
 carried_later test s m o lt ids pieces =
     list_any-append (λ p. p.0 == m && p.1 == o) (places_at s (offsets_where test ids)) (carried_in test (numbered (suc s) pieces))
     ∙ ap (λ b. b || contains_place (carried_in test (numbered (suc s) pieces)) m o)
-        (places_elsewhere s m o (ne_eqb s m (λ e. omega arith)) (offsets_where test ids))
+    (places_elsewhere s m o (ne_eqb s m (λ e. omega arith)) (offsets_where test ids))
 
 -- a new segment, with marks on the rows that pass
 abbrev pub merged_as : ℕ → ℕ → (ℕ → Bool) → ℕ × List ℕ → Segment
@@ -63,15 +63,15 @@ merged_from : (t b : ℕ) (test : ℕ → Bool) (places : List (ℕ × ℕ)) (s 
 merged_from t b test places s [] same = refl
 merged_from t b test places s (ids ∷ pieces) same =
     ap₂ ◌∷◌
-        (ap (new_segment t s b)
-            (new_spots_same t (contains_place places s) (contains_number (offsets_where test ids)) 0
-                (λ o le. same s o (omega arith) ∙ carried_here test s o ids pieces) ids
-            ∙ spots_where t test ids))
-        (merged_from t b test places (suc s) pieces (λ m o le. same m o (omega arith) ∙ carried_later test s m o le ids pieces))
+    (ap (new_segment t s b)
+    (new_spots_same t (contains_place places s) (contains_number (offsets_where test ids)) 0
+    (λ o le. same s o (omega arith) ∙ carried_here test s o ids pieces) ids
+    ∙ spots_where t test ids))
+    (merged_from t b test places (suc s) pieces (λ m o le. same m o (omega arith) ∙ carried_later test s m o le ids pieces))
 
 pub merged_are : (t b : ℕ) (test : ℕ → Bool) (s : ℕ) (pieces : List (List ℕ))
     → map (λ new. new_segment t new.0 b (new_spots t (contains_place (carried_in test (numbered s pieces)) new.0) 0 new.1)) (numbered s pieces)
-      ≡ map (merged_as t b test) (numbered s pieces)
+    ≡ map (merged_as t b test) (numbered s pieces)
 merged_are t b test s pieces = merged_from t b test (carried_in test (numbered s pieces)) s pieces (λ m o le. refl)
 
 -- how often a row is free in them
@@ -88,7 +88,7 @@ merged_count t b n test s (ids ∷ pieces) = go (test n) (count_new_spots t n te
     go : (c : Bool) → count_spots is_free n (map (spot_of t test) ids) ≡ cond c 0 (count_ids n ids)
         → count_segments is_in_use is_free n (map (merged_as t b test) (numbered (suc s) pieces)) ≡ cond c 0 (total (count_ids n) pieces)
         → count_spots is_free n (map (spot_of t test) ids) + count_segments is_in_use is_free n (map (merged_as t b test) (numbered (suc s) pieces))
-          ≡ cond c 0 (count_ids n ids + total (count_ids n) pieces)
+        ≡ cond c 0 (count_ids n ids + total (count_ids n) pieces)
     go true e ih = omega arith
     go false e ih = omega arith
 
@@ -96,14 +96,18 @@ cut_counts : (n times size : ℕ) (ids : List ℕ) → 0 < size → length ids �
 cut_counts n times size [] pos le = refl
 cut_counts n zero size (i ∷ ids) pos le = absurd (omega arith)
 cut_counts n (suc times) size (i ∷ ids) pos le =
-    omega (arith, total-take-drop (λ m. bit (m == n)) size (i ∷ ids),
-        cut_counts n times size (drop size (i ∷ ids)) pos (shorter size pos))
+    omega (
+      arith,
+      total-take-drop (λ m. bit (m == n)) size (i ∷ ids),
+      cut_counts n times size (drop size (i ∷ ids)) pos (shorter size pos),
+    )
   where
     rest : (k : ℕ) (xs : List ℕ) → length (drop k xs) ≤ length xs
     rest zero [] = omega arith
     rest zero (x ∷ xs) = omega arith
     rest (suc k) [] = omega arith
     rest (suc k) (x ∷ xs) = omega (arith, rest k xs)
+
     shorter : (k : ℕ) → 0 < k → length (drop k (i ∷ ids)) ≤ times
     shorter zero p = absurd (omega arith)
     shorter (suc k) p = omega (arith, rest k ids)
@@ -123,14 +127,17 @@ pub rests_counts : (olds : List ℕ) (n : ℕ) (segments : List Segment) → res
 rests_counts olds n [] e = absurd (false≢true e)
 rests_counts olds n (s ∷ segments) e =
     ⊎_elim
-        (λ (here : (contains_number olds s.number && is_in_use s && has_free n s.spots) ≡ true).
-            let outer = and_parts (contains_number olds s.number && is_in_use s) (has_free n s.spots) here in
-            let inner = and_parts (contains_number olds s.number) (is_in_use s) outer.0 in
-            omega (arith, free_counts n s.spots outer.1,
-                cond-true (contains_number olds s.number) (cond (is_in_use s) (count_spots is_free n s.spots) 0) 0 inner.0,
-                cond-true (is_in_use s) (count_spots is_free n s.spots) 0 inner.1))
-        (λ there. omega (arith, rests_counts olds n segments there))
-        (or_cases _ _ e)
+    (λ (here : (contains_number olds s.number && is_in_use s && has_free n s.spots) ≡ true).
+    let outer = and_parts (contains_number olds s.number && is_in_use s) (has_free n s.spots) here in
+    let inner = and_parts (contains_number olds s.number) (is_in_use s) outer.0 in
+    omega (
+      arith,
+      free_counts n s.spots outer.1,
+      cond-true (contains_number olds s.number) (cond (is_in_use s) (count_spots is_free n s.spots) 0) 0 inner.0,
+      cond-true (is_in_use s) (count_spots is_free n s.spots) 0 inner.1,
+    ))
+    (λ there. omega (arith, rests_counts olds n segments there))
+    (or_cases _ _ e)
 
 pub rests_none : (olds : List ℕ) (n : ℕ) (segments : List Segment) → rests_in olds segments n ≡ false → count_old (contains_number olds) n segments ≡ 0
 rests_none olds n [] e = refl
@@ -142,6 +149,7 @@ rests_none olds n (s ∷ segments) e = go (contains_number olds s.number) (is_in
         least : (m : ℕ) → count_spots is_free n s.spots ≡ m → m ≡ 0
         least zero g = refl
         least (suc m) g = absurd (both_ways (has_free n s.spots) f (counts_any (λ x. x.id == n && is_free x) s.spots (omega arith)))
+
     go : (a b c : Bool) → has_free n s.spots ≡ c → ((a && b && c) || rests_in olds segments n) ≡ false
         → (rests_in olds segments n ≡ false → count_old (contains_number olds) n segments ≡ 0)
         → cond a (cond b (count_spots is_free n s.spots) 0) 0 + count_old (contains_number olds) n segments ≡ 0
@@ -154,19 +162,20 @@ rests_none olds n (s ∷ segments) e = go (contains_number olds s.number) (is_in
 -- those that die are no longer counted
 pub died_count : (t : ℕ) (olds : List ℕ) (n : ℕ) (segments : List Segment)
     → count_segments is_in_use is_free n segments
-      ≡ count_segments is_in_use is_free n (died_at t olds segments) + count_old (contains_number olds) n segments
+    ≡ count_segments is_in_use is_free n (died_at t olds segments) + count_old (contains_number olds) n segments
 died_count t olds n segments =
     total_part (λ s. cond (is_in_use s) (count_spots is_free n s.spots) 0)
-        (λ s. cond (is_in_use (dead s)) (count_spots is_free n (dead s).spots) 0)
-        (λ s. cond (contains_number olds s.number) (cond (is_in_use s) (count_spots is_free n s.spots) 0) 0) segments
-        (each_all _ (λ s. go s (contains_number olds s.number)) segments)
+    (λ s. cond (is_in_use (dead s)) (count_spots is_free n (dead s).spots) 0)
+    (λ s. cond (contains_number olds s.number) (cond (is_in_use s) (count_spots is_free n s.spots) 0) 0) segments
+    (each_all _ (λ s. go s (contains_number olds s.number)) segments)
     ∙ ap (λ m. m + count_old (contains_number olds) n segments) (sym (total-map (λ s. cond (is_in_use s) (count_spots is_free n s.spots) 0) dead segments))
   where
     dead : Segment → Segment
     dead s = cond (contains_number olds s.number) (end_segment t s) s
+
     go : (s : Segment) (b : Bool)
         → cond (is_in_use s) (count_spots is_free n s.spots) 0
-          ≡ cond (is_in_use (cond b (end_segment t s) s)) (count_spots is_free n (cond b (end_segment t s) s).spots) 0
-            + cond b (cond (is_in_use s) (count_spots is_free n s.spots) 0) 0
+        ≡ cond (is_in_use (cond b (end_segment t s) s)) (count_spots is_free n (cond b (end_segment t s) s).spots) 0
+        + cond b (cond (is_in_use s) (count_spots is_free n s.spots) 0) 0
     go s true = omega (arith, ap (λ d. cond (not d) (count_spots is_free n s.spots) 0) (some_set t s.died))
     go s false = omega arith

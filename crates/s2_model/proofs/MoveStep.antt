@@ -43,9 +43,12 @@ marks_now : (t n : ℕ) (test : ℕ → Bool) (o : ℕ) (spots : List Spot)
     → count_spots is_free n (mark_spots t test o spots) + count_ids n (free_ids_at test o spots) ≡ count_spots is_free n spots
 marks_now t n test o [] = refl
 marks_now t n test o (x ∷ spots) =
-    omega (arith, marks_now t n test (o + 1) spots,
-        total-append (λ m. bit (m == n)) (cond (test o && is_free x) (x.id ∷ []) []) (free_ids_at test (o + 1) spots),
-        go (test o) (is_free x) refl)
+    omega (
+      arith,
+      marks_now t n test (o + 1) spots,
+      total-append (λ m. bit (m == n)) (cond (test o && is_free x) (x.id ∷ []) []) (free_ids_at test (o + 1) spots),
+      go (test o) (is_free x) refl,
+    )
   where
     go : (b c : Bool) → is_free x ≡ c
         → bit ((cond b (set_mark t x) x).id == n && is_free (cond b (set_mark t x) x)) + count_ids n (cond (b && c) (x.id ∷ []) []) ≡ bit (x.id == n && c)
@@ -60,8 +63,8 @@ marks_now t n test o (x ∷ spots) =
 
 segment_marks : (t n : ℕ) (places : List (ℕ × ℕ)) (s : Segment)
     → cond (is_in_use s) (count_spots is_free n s.spots) 0
-      ≡ cond (is_in_use s) (count_spots is_free n (mark_segment t places s).spots) 0
-        + count_ids n (cond (is_in_use s) (free_ids_at (contains_place places s.number) 0 s.spots) [])
+    ≡ cond (is_in_use s) (count_spots is_free n (mark_segment t places s).spots) 0
+    + count_ids n (cond (is_in_use s) (free_ids_at (contains_place places s.number) 0 s.spots) [])
 segment_marks t n places s = go (is_in_use s)
   where
     go : (b : Bool) → cond b (count_spots is_free n s.spots) 0
@@ -71,7 +74,7 @@ segment_marks t n places s = go (is_in_use s)
 
 moved_counts : (n : ℕ) (places : List (ℕ × ℕ)) (segments : List Segment)
     → count_ids n (moved_ids places segments)
-      ≡ total (λ s. count_ids n (cond (is_in_use s) (free_ids_at (contains_place places s.number) 0 s.spots) [])) segments
+    ≡ total (λ s. count_ids n (cond (is_in_use s) (free_ids_at (contains_place places s.number) 0 s.spots) [])) segments
 moved_counts n places [] = refl
 moved_counts n places (s ∷ segments) =
     total-append (λ m. bit (m == n)) (cond (is_in_use s) (free_ids_at (contains_place places s.number) 0 s.spots) []) (moved_ids places segments)
@@ -79,21 +82,21 @@ moved_counts n places (s ∷ segments) =
 
 segments_mark : (t n : ℕ) (places : List (ℕ × ℕ)) (segments : List Segment)
     → count_segments is_in_use is_free n (marked t places segments) + count_ids n (moved_ids places segments)
-      ≡ count_segments is_in_use is_free n segments
+    ≡ count_segments is_in_use is_free n segments
 segments_mark t n places segments =
     ap₂ ◌+◌ (total-map (λ s. cond (is_in_use s) (count_spots is_free n s.spots) 0) (mark_segment t places) segments) (moved_counts n places segments)
     ∙ sym (total_part (λ s. cond (is_in_use s) (count_spots is_free n s.spots) 0)
-        (λ s. cond (is_in_use s) (count_spots is_free n (mark_segment t places s).spots) 0)
-        (λ s. count_ids n (cond (is_in_use s) (free_ids_at (contains_place places s.number) 0 s.spots) []))
-        segments (each_all _ (segment_marks t n places) segments))
+    (λ s. cond (is_in_use s) (count_spots is_free n (mark_segment t places s).spots) 0)
+    (λ s. count_ids n (cond (is_in_use s) (free_ids_at (contains_place places s.number) 0 s.spots) []))
+    segments (each_all _ (segment_marks t n places) segments))
 
 segments_before : (t r n : ℕ) (places : List (ℕ × ℕ)) → r < t → (segments : List Segment)
     → count_segments (is_alive r) (is_unmarked r) n (marked t places segments) ≡ count_segments (is_alive r) (is_unmarked r) n segments
 segments_before t r n places lt segments =
     total-map (λ s. cond (is_alive r s) (count_spots (is_unmarked r) n s.spots) 0) (mark_segment t places) segments
     ∙ total_same (λ s. cond (is_alive r s) (count_spots (is_unmarked r) n (mark_segment t places s).spots) 0)
-        (λ s. cond (is_alive r s) (count_spots (is_unmarked r) n s.spots) 0) segments
-        (each_all _ (λ s. ap (λ m. cond (is_alive r s) m 0) (marks_before t r n (contains_place places s.number) lt 0 s.spots)) segments)
+    (λ s. cond (is_alive r s) (count_spots (is_unmarked r) n s.spots) 0) segments
+    (each_all _ (λ s. ap (λ m. cond (is_alive r s) m 0) (marks_before t r n (contains_place places s.number) lt 0 s.spots)) segments)
 
 -- versions of rows of the content
 
@@ -138,8 +141,8 @@ copied_count t n rows (m ∷ ids) = go (m == n) refl (row_at rows m) refl (row_a
 pub new_unseen : (t r n : ℕ) → r < t → (versions : List Version) → Each (λ v. v.begin ≡ t) versions → count_versions (is_visible r) n versions ≡ 0
 new_unseen t r n lt versions each =
     total_zero (λ v. bit (v.id == n && is_visible r v)) versions
-        (each_weaker (λ v. v.begin ≡ t) (λ v. bit (v.id == n && is_visible r v) ≡ 0)
-            (λ v e. unseen v (lt-leb v.begin r (omega arith))) versions each)
+    (each_weaker (λ v. v.begin ≡ t) (λ v. bit (v.id == n && is_visible r v) ≡ 0)
+    (λ v e. unseen v (lt-leb v.begin r (omega arith))) versions each)
   where
     unseen : (v : Version) → nat_le v.begin r ≡ false → bit (v.id == n && is_visible r v) ≡ 0
     unseen v e = grind arith
@@ -157,77 +160,88 @@ move_now H k places s n = go (row_at (state H) n) refl
   where
     go : (o : Option RowOf) → row_at (state H) n ≡ o → count_now n (moved_place H places) ≡ size (row_at (state H) n)
     go None e =
-        omega (arith,
-            total-append (λ v. bit (v.id == n && is_living v)) (placement H).versions (copied (suc (length H)) (state H) (moved_ids places (placement H).segments)),
-            copied_count (suc (length H)) n (state H) (moved_ids places (placement H).segments)
-                ∙ ap (λ q. cond (is_some q) (count_ids n (moved_ids places (placement H).segments)) 0) e,
-            segments_mark (suc (length H)) n places (placement H).segments,
-            now_from_numbers H (placement H) s.placed n, ap size e)
+        omega (
+          arith,
+          total-append (λ v. bit (v.id == n && is_living v)) (placement H).versions (copied (suc (length H)) (state H) (moved_ids places (placement H).segments)),
+          copied_count (suc (length H)) n (state H) (moved_ids places (placement H).segments)
+              ∙ ap (λ q. cond (is_some q) (count_ids n (moved_ids places (placement H).segments)) 0) e,
+          segments_mark (suc (length H)) n places (placement H).segments,
+          now_from_numbers H (placement H) s.placed n,
+          ap size e,
+        )
     go (Some x) e =
-        omega (arith,
-            total-append (λ v. bit (v.id == n && is_living v)) (placement H).versions (copied (suc (length H)) (state H) (moved_ids places (placement H).segments)),
-            copied_count (suc (length H)) n (state H) (moved_ids places (placement H).segments)
-                ∙ ap (λ q. cond (is_some q) (count_ids n (moved_ids places (placement H).segments)) 0) e,
-            segments_mark (suc (length H)) n places (placement H).segments,
-            now_from_numbers H (placement H) s.placed n)
+        omega (
+          arith,
+          total-append (λ v. bit (v.id == n && is_living v)) (placement H).versions (copied (suc (length H)) (state H) (moved_ids places (placement H).segments)),
+          copied_count (suc (length H)) n (state H) (moved_ids places (placement H).segments)
+              ∙ ap (λ q. cond (is_some q) (count_ids n (moved_ids places (placement H).segments)) 0) e,
+          segments_mark (suc (length H)) n places (placement H).segments,
+          now_from_numbers H (placement H) s.placed n,
+        )
 
 move_by : (H : History) (places : List (ℕ × ℕ)) (s : Segment) → SegmentBy (length H) s → SegmentBy (suc (length H)) (mark_segment (suc (length H)) places s)
 move_by H places s b = record {
-    base = b.base;
-    born = omega (arith, b.born);
-    died = by_more (length H) (suc (length H)) s.died (omega arith) b.died;
-    marks = each-mark_spots (λ x. IsBy (length H) x.mark) (λ x. IsBy (suc (length H)) x.mark) (suc (length H)) (contains_place places s.number)
-        (λ x m. by_more (length H) (suc (length H)) x.mark (omega arith) m)
-        (λ x m. by_set (length H) (suc (length H)) x.mark (omega arith) m) 0 s.spots b.marks }
+  base = b.base;
+  born = omega (arith, b.born);
+  died = by_more (length H) (suc (length H)) s.died (omega arith) b.died;
+  marks = each-mark_spots (λ x. IsBy (length H) x.mark) (λ x. IsBy (suc (length H)) x.mark) (suc (length H)) (contains_place places s.number)
+      (λ x m. by_more (length H) (suc (length H)) x.mark (omega arith) m)
+      (λ x m. by_set (length H) (suc (length H)) x.mark (omega arith) m) 0 s.spots b.marks;
+}
 
 move_tells : (H : History) (k : ℕ) (places : List (ℕ × ℕ)) (s : Segment) → SegmentBy (length H) s → SegmentTells H s
     → SegmentTells (moved H k places) (mark_segment (suc (length H)) places s)
 move_tells H k places s b tells =
     each-mark_spots (λ x. IsBy (length H) x.mark × SpotTells H s x) (SpotTells (moved H k places) s) (suc (length H)) (contains_place places s.number)
-        (λ x m. spot_tells_kept H (entry_of k (Move places)) s x b m.0 (λ used free. refl) m.1)
-        (λ x m. spot_tells_marked H (entry_of k (Move places)) s x m.0 m.1) 0 s.spots
-        (each_both (λ x. IsBy (length H) x.mark) (SpotTells H s) (λ x. IsBy (length H) x.mark × SpotTells H s x) (λ x m t. (m, t)) s.spots b.marks tells)
+    (λ x m. spot_tells_kept H (entry_of k (Move places)) s x b m.0 (λ used free. refl) m.1)
+    (λ x m. spot_tells_marked H (entry_of k (Move places)) s x m.0 m.1) 0 s.spots
+    (each_both (λ x. IsBy (length H) x.mark) (SpotTells H s) (λ x. IsBy (length H) x.mark × SpotTells H s x) (λ x m t. (m, t)) s.spots b.marks tells)
 
 move_placed : (H : History) (k : ℕ) (places : List (ℕ × ℕ)) → IsSound H → IsPlacedWell (moved H k places) (moved_place H places)
 move_placed H k places s =
     placed_step H (entry_of k (Move places)) (placement H) (moved_place H places) s.placed (record {
-    by = record {
+      by = record {
         versions = each-append (VersionBy (suc (length H))) (placement H).versions (copied (suc (length H)) (state H) ids)
             (each_weaker (VersionBy (length H)) (VersionBy (suc (length H))) (version_by_more (length H) (suc (length H)) (omega arith)) (placement H).versions s.placed.by.versions)
             (each_weaker (IsCopy (suc (length H)) (state H)) (VersionBy (suc (length H)))
-                (λ v c. record { begin = omega (arith, c.begin); stop = subst (IsBy (suc (length H))) (sym c.stop) tt })
-                (copied (suc (length H)) (state H) ids) (copied_are (suc (length H)) (state H) ids));
-        segments = each-map (SegmentBy (length H)) (SegmentBy (suc (length H))) (mark_segment (suc (length H)) places) (move_by H places) (placement H).segments s.placed.by.segments };
-    versions_tell = each-append (VersionTells (moved H k places)) (placement H).versions (copied (suc (length H)) (state H) ids)
-        (versions_kept H (entry_of k (Move places)) (λ n. refl) (placement H).versions s.placed.by.versions s.placed.versions_tell)
-        (each_weaker (IsCopy (suc (length H)) (state H)) (VersionTells (moved H k places))
-            (λ v c. version_tells_new H (entry_of k (Move places)) v c.begin c.row)
+            (λ v c. record { begin = omega (arith, c.begin); stop = subst (IsBy (suc (length H))) (sym c.stop) tt })
             (copied (suc (length H)) (state H) ids) (copied_are (suc (length H)) (state H) ids));
-    segments_tell =
-        each-map (λ g. SegmentBy (length H) g × SegmentTells H g) (SegmentTells (moved H k places)) (mark_segment (suc (length H)) places)
-            (λ g b. move_tells H k places g b.0 b.1) (placement H).segments
-            (each_both (SegmentBy (length H)) (SegmentTells H) (λ g. SegmentBy (length H) g × SegmentTells H g) (λ g b t. (b, t))
-                (placement H).segments s.placed.by.segments s.placed.segments_tell);
-    old = λ r n from to.
-        omega (arith,
+        segments = each-map (SegmentBy (length H)) (SegmentBy (suc (length H))) (mark_segment (suc (length H)) places) (move_by H places) (placement H).segments s.placed.by.segments;
+      };
+      versions_tell = each-append (VersionTells (moved H k places)) (placement H).versions (copied (suc (length H)) (state H) ids)
+          (versions_kept H (entry_of k (Move places)) (λ n. refl) (placement H).versions s.placed.by.versions s.placed.versions_tell)
+          (each_weaker (IsCopy (suc (length H)) (state H)) (VersionTells (moved H k places))
+          (λ v c. version_tells_new H (entry_of k (Move places)) v c.begin c.row)
+          (copied (suc (length H)) (state H) ids) (copied_are (suc (length H)) (state H) ids));
+      segments_tell =
+          each-map (λ g. SegmentBy (length H) g × SegmentTells H g) (SegmentTells (moved H k places)) (mark_segment (suc (length H)) places)
+          (λ g b. move_tells H k places g b.0 b.1) (placement H).segments
+          (each_both (SegmentBy (length H)) (SegmentTells H) (λ g. SegmentBy (length H) g × SegmentTells H g) (λ g b t. (b, t))
+          (placement H).segments s.placed.by.segments s.placed.segments_tell);
+      old = λ r n from to.
+          omega (
+            arith,
             total-append (λ v. bit (v.id == n && is_visible r v)) (placement H).versions (copied (suc (length H)) (state H) ids),
             new_unseen (suc (length H)) r n (omega arith) (copied (suc (length H)) (state H) ids)
                 (each_weaker (IsCopy (suc (length H)) (state H)) (λ v. v.begin ≡ suc (length H)) (λ v c. c.begin)
-                    (copied (suc (length H)) (state H) ids) (copied_are (suc (length H)) (state H) ids)),
-            segments_before (suc (length H)) r n places (omega arith) (placement H).segments);
-    now = move_now H k places s;
-    horizon_rises = omega arith;
-    horizon_by = omega (arith, s.placed.horizon_by);
-    named = each-map (λ g. g.number ≤ last_segment H) (λ g. g.number ≤ last_segment H) (mark_segment (suc (length H)) places) (λ g le. le) (placement H).segments s.placed.named })
+                (copied (suc (length H)) (state H) ids) (copied_are (suc (length H)) (state H) ids)),
+            segments_before (suc (length H)) r n places (omega arith) (placement H).segments,
+          );
+      now = move_now H k places s;
+      horizon_rises = omega arith;
+      horizon_by = omega (arith, s.placed.horizon_by);
+      named = each-map (λ g. g.number ≤ last_segment H) (λ g. g.number ≤ last_segment H) (mark_segment (suc (length H)) places) (λ g le. le) (placement H).segments s.placed.named;
+    })
   where
     ids : List ℕ
     ids = moved_ids places (placement H).segments
 
 pub move_sound : (H : History) (k : ℕ) (places : List (ℕ × ℕ)) → IsSound H → IsSound (moved H k places)
 move_sound H k places s = record {
-    held = held_kept H (entry_of k (Move places)) (placement H) (moved_place H places) s.held refl refl (shrinks_from H k (Move places) (λ j n e. e))
-        (λ j n held e.
-            list_any-append (λ v. v.id == n && is_living v) (placement H).versions (copied (suc (length H)) (state H) (moved_ids places (placement H).segments))
-            ∙ or_left _ _ e);
-    placed = move_placed H k places s;
-    pinned = pinned_kept H k (Move places) (placement H) (λ o t. refl) s.pinned }
+  held = held_kept H (entry_of k (Move places)) (placement H) (moved_place H places) s.held refl refl (shrinks_from H k (Move places) (λ j n e. e))
+      (λ j n held e.
+      list_any-append (λ v. v.id == n && is_living v) (placement H).versions (copied (suc (length H)) (state H) (moved_ids places (placement H).segments))
+      ∙ or_left _ _ e);
+  placed = move_placed H k places s;
+  pinned = pinned_kept H k (Move places) (placement H) (λ o t. refl) s.pinned;
+}

@@ -36,24 +36,26 @@ goes_same old b segments = record { bases = λ a. a; rests = λ n e. e }
 goes-map : (old : ℕ → Bool) (b : ℕ) (h : Segment → Segment) → ((s : Segment) → (h s).number ≡ s.number) → ((s : Segment) → (h s).base ≡ s.base)
     → ((n : ℕ) (s : Segment) → rests_at old n (h s) ≡ true → rests_at old n s ≡ true) → (segments : List Segment) → OnlyGoes old b segments (map h segments)
 goes-map old b h number base step segments = record {
-    bases = λ a. each-map (λ s. old s.number ≡ true → s.base ≤ b) (λ s. old s.number ≡ true → s.base ≤ b) h
-        (λ s le o. subst (λ m. m ≤ b) (sym (base s)) (le (sym (ap old (number s)) ∙ o))) segments a;
-    rests = λ n e. any-map (rests_at old n) (rests_at old n) h (step n) segments e }
+  bases = λ a. each-map (λ s. old s.number ≡ true → s.base ≤ b) (λ s. old s.number ≡ true → s.base ≤ b) h
+      (λ s le o. subst (λ m. m ≤ b) (sym (base s)) (le (sym (ap old (number s)) ∙ o))) segments a;
+  rests = λ n e. any-map (rests_at old n) (rests_at old n) h (step n) segments e;
+}
 
 goes-append : (old : ℕ → Bool) (b : ℕ) (before after new : List Segment) → OnlyGoes old b before after → Each (λ s. old s.number ≡ false) new
     → OnlyGoes old b before (after ++ new)
 goes-append old b before after new goes young = record {
-    bases = λ a. each-append (λ s. old s.number ≡ true → s.base ≤ b) after new (goes.bases a)
-        (each_weaker (λ s. old s.number ≡ false) (λ s. old s.number ≡ true → s.base ≤ b) (λ s no' o. absurd (both_ways (old s.number) no' o)) new young);
-    rests = λ n e.
-        ⊎_elim (λ here. goes.rests n here) (λ there. absurd (none new young n there))
-            (or_cases _ _ (sym (list_any-append (rests_at old n) after new) ∙ e)) }
+  bases = λ a. each-append (λ s. old s.number ≡ true → s.base ≤ b) after new (goes.bases a)
+      (each_weaker (λ s. old s.number ≡ false) (λ s. old s.number ≡ true → s.base ≤ b) (λ s no' o. absurd (both_ways (old s.number) no' o)) new young);
+  rests = λ n e.
+      ⊎_elim (λ here. goes.rests n here) (λ there. absurd (none new young n there))
+      (or_cases _ _ (sym (list_any-append (rests_at old n) after new) ∙ e));
+}
   where
     none : (new : List Segment) → Each (λ s. old s.number ≡ false) new → (n : ℕ) → list_any (rests_at old n) new ≡ true → ⊥
     none [] each n e = false≢true e
     none (s ∷ new) each n e =
         ⊎_elim (λ here. both_ways (old s.number) each.0 (and_parts _ _ (and_parts _ _ here).0).0)
-            (λ there. none new each.1 n there) (or_cases _ _ e)
+        (λ there. none new each.1 n there) (or_cases _ _ e)
 
 free_marks : (t n : ℕ) (test : ℕ → Bool) (o : ℕ) (spots : List Spot) → has_free n (mark_spots t test o spots) ≡ true → has_free n spots ≡ true
 free_marks t n test o [] e = e
@@ -62,37 +64,40 @@ free_marks t n test o (x ∷ spots) e = go (test o) (free_marks t n test (o + 1)
     or_later : (a b : Bool) → b ≡ true → (a || b) ≡ true
     or_later true b e = refl
     or_later false b e = e
+
     go : (b : Bool) → (has_free n (mark_spots t test (o + 1) spots) ≡ true → has_free n spots ≡ true)
         → (((cond b (set_mark t x) x).id == n && is_free (cond b (set_mark t x) x)) || has_free n (mark_spots t test (o + 1) spots)) ≡ true
         → ((x.id == n && is_free x) || has_free n spots) ≡ true
     go true ih f =
         ⊎_elim (λ here. absurd (both_ways _ (ap not (some_set t x.mark)) (and_parts _ _ here).1))
-            (λ there. or_later (x.id == n && is_free x) _ (ih there)) (or_cases _ _ f)
+        (λ there. or_later (x.id == n && is_free x) _ (ih there)) (or_cases _ _ f)
     go false ih f =
         ⊎_elim (λ here. ap (λ c. c || has_free n spots) here)
-            (λ there. or_later (x.id == n && is_free x) _ (ih there)) (or_cases _ _ f)
+        (λ there. or_later (x.id == n && is_free x) _ (ih there)) (or_cases _ _ f)
 
 goes_marked : (old : ℕ → Bool) (b t : ℕ) (places : List (ℕ × ℕ)) (segments : List Segment) → OnlyGoes old b segments (map (mark_segment t places) segments)
 goes_marked old b t places segments =
     goes-map old b (mark_segment t places) (λ s. refl) (λ s. refl)
-        (λ n s e.
-            let both = and_parts _ _ e in
-            and_from _ _ both.0 (free_marks t n (contains_place places s.number) 0 s.spots both.1))
-        segments
+    (λ n s e.
+    let both = and_parts _ _ e in
+    and_from _ _ both.0 (free_marks t n (contains_place places s.number) 0 s.spots both.1))
+    segments
 
 goes_dead : (old : ℕ → Bool) (b t : ℕ) (numbers : List ℕ) (segments : List Segment)
     → OnlyGoes old b segments (map (λ s. cond (contains_number numbers s.number) (end_segment t s) s) segments)
 goes_dead old b t numbers segments =
     goes-map old b (λ s. cond (contains_number numbers s.number) (end_segment t s) s)
-        (λ s. number s (contains_number numbers s.number)) (λ s. base s (contains_number numbers s.number))
-        (λ n s e. go n s (contains_number numbers s.number) e) segments
+    (λ s. number s (contains_number numbers s.number)) (λ s. base s (contains_number numbers s.number))
+    (λ n s e. go n s (contains_number numbers s.number) e) segments
   where
     number : (s : Segment) (c : Bool) → (cond c (end_segment t s) s).number ≡ s.number
     number s true = refl
     number s false = refl
+
     base : (s : Segment) (c : Bool) → (cond c (end_segment t s) s).base ≡ s.base
     base s true = refl
     base s false = refl
+
     go : (n : ℕ) (s : Segment) (c : Bool) → rests_at old n (cond c (end_segment t s) s) ≡ true → rests_at old n s ≡ true
     go n s true e = absurd (both_ways _ (ap not (some_set t s.died)) (and_parts _ _ (and_parts _ _ e).0).1)
     go n s false e = e
@@ -106,17 +111,20 @@ goes_stored old b test h flags segments =
     number : (s : Segment) (c : Bool) → (cond c (h s) s).number ≡ s.number
     number s true = ap (λ g. g.number) (flags s)
     number s false = refl
+
     base : (s : Segment) (c : Bool) → (cond c (h s) s).base ≡ s.base
     base s true = ap (λ g. g.base) (flags s)
     base s false = refl
+
     go : (n : ℕ) (s : Segment) (c : Bool) → rests_at old n (cond c (h s) s) ≡ true → rests_at old n s ≡ true
     go n s true e = sym (ap (rests_at old n) (flags s)) ∙ e
     go n s false e = e
 
 goes-filter : (old : ℕ → Bool) (b : ℕ) (f : Segment → Bool) (segments : List Segment) → OnlyGoes old b segments (filter f segments)
 goes-filter old b f segments = record {
-    bases = λ a. each-filter (λ s. old s.number ≡ true → s.base ≤ b) f segments a;
-    rests = λ n e. any-filter (rests_at old n) f segments e }
+  bases = λ a. each-filter (λ s. old s.number ≡ true → s.base ≤ b) f segments a;
+  rests = λ n e. any-filter (rests_at old n) f segments e;
+}
 
 -- numbers of new segments
 
@@ -146,8 +154,11 @@ last_rises schema options H k Unpin f = omega arith
 last_rises schema options H k (Move places) f = omega arith
 last_rises schema options H k (Flush n) f = omega (arith, f.number)
 last_rises schema options H k (Merge m) f =
-    omega (arith, ap (λ news. last_number news (last_segment H)) f.news,
-        last_numbered (last_segment H) (cut options.segment_rows (row_ids (writes schema m.olds (upto m.base H)))))
+    omega (
+      arith,
+      ap (λ news. last_number news (last_segment H)) f.news,
+      last_numbered (last_segment H) (cut options.segment_rows (row_ids (writes schema m.olds (upto m.base H)))),
+    )
 last_rises schema options H k (Upload number) f = omega arith
 last_rises schema options H k (Evict numbers) f = omega arith
 last_rises schema options H k (Vacuum h) f = omega arith
@@ -173,15 +184,15 @@ goes_step schema options H k Unpin f old b top = goes_same old b (placement H).s
 goes_step schema options H k (Move places) f old b top = goes_marked old b (suc (length H)) places (placement H).segments
 goes_step schema options H k (Flush n) f old b top =
     goes-append old b (placement H).segments (placement H).segments (flushed_segment (suc (length H)) n ∷ []) (goes_same old b (placement H).segments)
-        (young old (last_segment H) top n.seg (omega (arith, f.number)), tt)
+    (young old (last_segment H) top n.seg (omega (arith, f.number)), tt)
 goes_step schema options H k (Merge m) f old b top =
     goes-append old b (placement H).segments (map (λ s. cond (contains_number m.olds s.number) (end_segment (suc (length H)) s) s) (placement H).segments)
-        (merged_segments (suc (length H)) m) (goes_dead old b (suc (length H)) m.olds (placement H).segments)
-        (each-map (λ new. suc (last_segment H) ≤ new.0) (λ s. old s.number ≡ false)
-            (λ new. new_segment (suc (length H)) new.0 m.base (new_spots (suc (length H)) (contains_place m.marked new.0) 0 new.1))
-            (λ new le. young old (last_segment H) top new.0 le) m.news
-            (subst (Each (λ new. suc (last_segment H) ≤ new.0)) (sym f.news)
-                (numbered_from (suc (last_segment H)) (cut options.segment_rows (row_ids (writes schema m.olds (upto m.base H)))))))
+    (merged_segments (suc (length H)) m) (goes_dead old b (suc (length H)) m.olds (placement H).segments)
+    (each-map (λ new. suc (last_segment H) ≤ new.0) (λ s. old s.number ≡ false)
+    (λ new. new_segment (suc (length H)) new.0 m.base (new_spots (suc (length H)) (contains_place m.marked new.0) 0 new.1))
+    (λ new le. young old (last_segment H) top new.0 le) m.news
+    (subst (Each (λ new. suc (last_segment H) ≤ new.0)) (sym f.news)
+    (numbered_from (suc (last_segment H)) (cut options.segment_rows (row_ids (writes schema m.olds (upto m.base H)))))))
 goes_step schema options H k (Upload number) f old b top = goes_stored old b (λ s. s.number == number) store_segment (λ s. refl) (placement H).segments
 goes_step schema options H k (Evict numbers) f old b top = goes_stored old b (λ s. contains_number numbers s.number) drop_file (λ s. refl) (placement H).segments
 goes_step schema options H k (Vacuum h) f old b top = goes-filter old b (λ s. not (is_done h s.died)) (placement H).segments
@@ -190,9 +201,9 @@ pub last_rises_since : (schema : Schema) (options : Options) (H : History) → A
 last_rises_since schema options [] fit b le = omega arith
 last_rises_since schema options (H ▷ e) fit b le =
     ⊎_elim (λ lt. subst (λ G. last_segment G ≤ last_segment (H ▷ e)) (sym (upto_all b (H ▷ e) lt)) (omega arith))
-        (λ past. subst (λ G. last_segment G ≤ last_segment (H ▷ e)) (sym (upto_past b H e past))
-            (omega (arith, last_rises_since schema options H fit.0 b past, last_rises schema options H e.actor e.what fit.1)))
-        (cases_lt (length H) b)
+    (λ past. subst (λ G. last_segment G ≤ last_segment (H ▷ e)) (sym (upto_past b H e past))
+    (omega (arith, last_rises_since schema options H fit.0 b past, last_rises schema options H e.actor e.what fit.1)))
+    (cases_lt (length H) b)
 
 -- rows that rest in segments of old numbers rested there at b, and these segments have bases at most b
 pub record SinceBase (old : ℕ → Bool) (b : ℕ) (H : History) : Type 0 where
@@ -201,24 +212,26 @@ pub record SinceBase (old : ℕ → Bool) (b : ℕ) (H : History) : Type 0 where
 
 since_itself : (old : ℕ → Bool) (b : ℕ) (H : History) → length H ≤ b → IsSound H → SinceBase old b H
 since_itself old b H le s = record {
-    bases = each_weaker (SegmentBy (length H)) (λ g. old g.number ≡ true → g.base ≤ b) (λ g by o. omega (arith, by.base, by.born)) (placement H).segments s.placed.by.segments;
-    rests = λ n e. ap (λ G. list_any (rests_at old n) (placement G).segments) (upto_all b H le) ∙ e }
+  bases = each_weaker (SegmentBy (length H)) (λ g. old g.number ≡ true → g.base ≤ b) (λ g by o. omega (arith, by.base, by.born)) (placement H).segments s.placed.by.segments;
+  rests = λ n e. ap (λ G. list_any (rests_at old n) (placement G).segments) (upto_all b H le) ∙ e;
+}
 
 pub since_base : (schema : Schema) (options : Options) (old : ℕ → Bool) (b : ℕ) (H : History) → AllFit schema options H → b ≤ length H
     → ((m : ℕ) → old m ≡ true → m ≤ last_segment (upto b H)) → IsSound (upto b H) → SinceBase old b H
 since_base schema options old b [] fit le top s = since_itself old b [] (omega arith) s
 since_base schema options old b (H ▷ e) fit le top s =
     ⊎_elim (λ lt. since_itself old b (H ▷ e) lt (subst IsSound (upto_all b (H ▷ e) lt) s))
-        (λ past.
-            let at = upto_past b H e past in
-            let tops = subst (λ G. (m : ℕ) → old m ≡ true → m ≤ last_segment G) at top in
-            let before = since_base schema options old b H fit.0 past tops (subst IsSound at s) in
-            let goes = goes_step schema options H e.actor e.what fit.1 old b
-                (λ m o. omega (arith, tops m o, last_rises_since schema options H fit.0 b past)) in
-            record {
-                bases = goes.bases before.bases;
-                rests = λ n r. ap (λ G. list_any (rests_at old n) (placement G).segments) at ∙ before.rests n (goes.rests n r) })
-        (cases_lt (length H) b)
+    (λ past.
+    let at = upto_past b H e past in
+    let tops = subst (λ G. (m : ℕ) → old m ≡ true → m ≤ last_segment G) at top in
+    let before = since_base schema options old b H fit.0 past tops (subst IsSound at s) in
+    let goes = goes_step schema options H e.actor e.what fit.1 old b
+    (λ m o. omega (arith, tops m o, last_rises_since schema options H fit.0 b past)) in
+    record {
+      bases = goes.bases before.bases;
+      rests = λ n r. ap (λ G. list_any (rests_at old n) (placement G).segments) at ∙ before.rests n (goes.rests n r);
+    })
+    (cases_lt (length H) b)
 
 -- a plan names segments that there are
 
@@ -245,16 +258,16 @@ planned_by last options runs each olds e = go (find (λ t. nat_le options.fanout
     go (Some t) f =
         let same : flat_map (λ run. run.numbers) (take options.fanout (runs_in_tier options runs t)) ≡ olds = cc in
         subst (Each (λ m. m ≤ last)) same
-            (each-flat_map (RunBy last) (λ m. m ≤ last) (λ run. run.numbers) (λ run by. by) (take options.fanout (runs_in_tier options runs t))
-                (each-take (RunBy last) options.fanout (runs_in_tier options runs t)
-                    (each-filter (RunBy last) _ runs each)))
+        (each-flat_map (RunBy last) (λ m. m ≤ last) (λ run. run.numbers) (λ run by. by) (take options.fanout (runs_in_tier options runs t))
+        (each-take (RunBy last) options.fanout (runs_in_tier options runs t)
+        (each-filter (RunBy last) _ runs each)))
 
 pub plan_by : (options : Options) (H : History) → IsSound H → (olds : List ℕ) → plan options H ≡ Some olds → (m : ℕ) → contains_number olds m ≡ true → m ≤ last_segment H
 unfolding plan
 plan_by options H s olds e m c =
     among olds (planned_by (last_segment H) options (runs_of (filter is_in_use (placement H).segments))
-        (runs_by (last_segment H) (filter is_in_use (placement H).segments)
-            (each-filter (λ g. g.number ≤ last_segment H) is_in_use (placement H).segments s.placed.named)) olds e) c
+    (runs_by (last_segment H) (filter is_in_use (placement H).segments)
+    (each-filter (λ g. g.number ≤ last_segment H) is_in_use (placement H).segments s.placed.named)) olds e) c
   where
     among : (olds : List ℕ) → Each (λ i. i ≤ last_segment H) olds → contains_number olds m ≡ true → m ≤ last_segment H
     among [] each f = absurd (false≢true f)

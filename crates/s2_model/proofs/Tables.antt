@@ -57,6 +57,7 @@ above_low low (p ∷ rows) n up has =
     parts : (a b : Bool) → cond a b false ≡ true → (a ≡ true) × (b ≡ true)
     parts true b e = (refl, e)
     parts false b e = absurd (false≢true e)
+
     go : (b : Bool) → (p.0 == n) ≡ b → nat_lt low p.0 ≡ true → (is_some (row_at rows n) ≡ true → p.0 < n)
         → is_some (cond b (Some p.1) (row_at rows n)) ≡ true → low < n
     go true e lt ih h = omega (arith, ltb-true low p.0 lt, eqb-true p.0 n e)
@@ -83,4 +84,4 @@ rises-apply rows [] above up = up
 rises-apply rows (c ∷ changes) above up =
     let first : touches (c ∷ changes) (number_of c) ≡ true = or_left _ _ (eq-eqb (number_of c) (number_of c) refl) in
     rises-apply (apply_change rows c) changes (λ n t. above n (or_right _ _ t))
-        (rises-apply_change rows c (above (number_of c) first) up)
+    (rises-apply_change rows c (above (number_of c) first) up)

@@ -54,15 +54,17 @@ version_by_more t u le v b = record { begin = omega (arith, b.begin); stop = by_
 
 pub segment_by_more : (t u : ℕ) → t ≤ u → (s : Segment) → SegmentBy t s → SegmentBy u s
 segment_by_more t u le s b = record {
-    base = b.base;
-    born = omega (arith, b.born);
-    died = by_more t u s.died le b.died;
-    marks = each_weaker (λ x. IsBy t x.mark) (λ x. IsBy u x.mark) (λ x m. by_more t u x.mark le m) s.spots b.marks }
+  base = b.base;
+  born = omega (arith, b.born);
+  died = by_more t u s.died le b.died;
+  marks = each_weaker (λ x. IsBy t x.mark) (λ x. IsBy u x.mark) (λ x m. by_more t u x.mark le m) s.spots b.marks;
+}
 
 pub placed_by_more : (t u : ℕ) → t ≤ u → (P : Placement) → PlacedBy t P → PlacedBy u P
 placed_by_more t u le P b = record {
-    versions = each_weaker (VersionBy t) (VersionBy u) (version_by_more t u le) P.versions b.versions;
-    segments = each_weaker (SegmentBy t) (SegmentBy u) (segment_by_more t u le) P.segments b.segments }
+  versions = each_weaker (VersionBy t) (VersionBy u) (version_by_more t u le) P.versions b.versions;
+  segments = each_weaker (SegmentBy t) (SegmentBy u) (segment_by_more t u le) P.segments b.segments;
+}
 
 pub visible_living : (t r : ℕ) (v : Version) → VersionBy t v → t ≤ r → is_visible r v ≡ is_living v
 visible_living t r v b le =
@@ -96,8 +98,8 @@ count_now n P = count_versions is_living n P.versions + count_segments is_in_use
 spots_at_now : (t r n : ℕ) → t ≤ r → (spots : List Spot) → Each (λ x. IsBy t x.mark) spots → count_spots (is_unmarked r) n spots ≡ count_spots is_free n spots
 spots_at_now t r n le spots b =
     total_same (λ x. bit (x.id == n && is_unmarked r x)) (λ x. bit (x.id == n && is_free x)) spots
-        (each_weaker (λ x. IsBy t x.mark) (λ x. bit (x.id == n && is_unmarked r x) ≡ bit (x.id == n && is_free x))
-            (λ x m. ap (λ y. bit (x.id == n && y)) (unmarked_free t r x m le)) spots b)
+    (each_weaker (λ x. IsBy t x.mark) (λ x. bit (x.id == n && is_unmarked r x) ≡ bit (x.id == n && is_free x))
+    (λ x m. ap (λ y. bit (x.id == n && y)) (unmarked_free t r x m le)) spots b)
 
 segment_at_now : (t r n : ℕ) → t ≤ r → (s : Segment) → SegmentBy t s
     → cond (is_alive r s) (count_spots (is_unmarked r) n s.spots) 0 ≡ cond (is_in_use s) (count_spots is_free n s.spots) 0
@@ -107,9 +109,9 @@ segment_at_now t r n le s b =
 pub count_at_now : (t r n : ℕ) → t ≤ r → (P : Placement) → PlacedBy t P → count_at r n P ≡ count_now n P
 count_at_now t r n le P b =
     ap₂ ◌+◌
-        (total_same (λ v. bit (v.id == n && is_visible r v)) (λ v. bit (v.id == n && is_living v)) P.versions
-            (each_weaker (VersionBy t) (λ v. bit (v.id == n && is_visible r v) ≡ bit (v.id == n && is_living v))
-                (λ v w. ap (λ y. bit (v.id == n && y)) (visible_living t r v w le)) P.versions b.versions))
-        (total_same (λ s. cond (is_alive r s) (count_spots (is_unmarked r) n s.spots) 0) (λ s. cond (is_in_use s) (count_spots is_free n s.spots) 0) P.segments
-            (each_weaker (SegmentBy t) (λ s. cond (is_alive r s) (count_spots (is_unmarked r) n s.spots) 0 ≡ cond (is_in_use s) (count_spots is_free n s.spots) 0)
-                (segment_at_now t r n le) P.segments b.segments))
+    (total_same (λ v. bit (v.id == n && is_visible r v)) (λ v. bit (v.id == n && is_living v)) P.versions
+    (each_weaker (VersionBy t) (λ v. bit (v.id == n && is_visible r v) ≡ bit (v.id == n && is_living v))
+    (λ v w. ap (λ y. bit (v.id == n && y)) (visible_living t r v w le)) P.versions b.versions))
+    (total_same (λ s. cond (is_alive r s) (count_spots (is_unmarked r) n s.spots) 0) (λ s. cond (is_in_use s) (count_spots is_free n s.spots) 0) P.segments
+    (each_weaker (SegmentBy t) (λ s. cond (is_alive r s) (count_spots (is_unmarked r) n s.spots) 0 ≡ cond (is_in_use s) (count_spots is_free n s.spots) 0)
+    (segment_at_now t r n le) P.segments b.segments))

@@ -26,24 +26,26 @@ with_flags stored here P = record P { segments = map (flagged stored here) P.seg
 flagged_placed : (H : History) (e : Entry) (stored here : Segment → Bool) (P : Placement) → IsPlacedWell H P → SameRows H e → last_segment (H ▷ e) ≡ last_segment H
     → IsPlacedWell (H ▷ e) (with_flags stored here P)
 flagged_placed H e stored here P w same last = placed_step H e P (with_flags stored here P) w (record {
-    by = record {
-        versions = (placed_by_more (length H) (suc (length H)) (omega arith) P w.by).versions;
-        segments = each-map (SegmentBy (length H)) (SegmentBy (suc (length H))) (flagged stored here)
-            (λ s b. let c = segment_by_more (length H) (suc (length H)) (omega arith) s b in
-                record { base = c.base; born = c.born; died = c.died; marks = c.marks })
-            P.segments w.by.segments };
-    versions_tell = versions_kept H e same P.versions w.by.versions w.versions_tell;
-    segments_tell = each-map (SegmentTells (H ▷ e)) (SegmentTells (H ▷ e)) (flagged stored here) (λ s t. t) P.segments
-        (segments_kept H e same P.segments w.by.segments w.segments_tell);
-    old = λ r n from to. ap (λ m. count_versions (is_visible r) n P.versions + m)
-        (total-map (λ s. cond (is_alive r s) (count_spots (is_unmarked r) n s.spots) 0) (flagged stored here) P.segments);
-    now = λ n.
-        ap (λ m. count_versions is_living n P.versions + m)
-            (total-map (λ s. cond (is_in_use s) (count_spots is_free n s.spots) 0) (flagged stored here) P.segments)
-        ∙ now_from_numbers H P w n ∙ ap size (sym (same n));
-    horizon_rises = omega arith;
-    horizon_by = omega (arith, w.horizon_by);
-    named = each-map (λ s. s.number ≤ last_segment H) (λ s. s.number ≤ last_segment (H ▷ e)) (flagged stored here) (λ s le. omega arith) P.segments w.named })
+  by = record {
+    versions = (placed_by_more (length H) (suc (length H)) (omega arith) P w.by).versions;
+    segments = each-map (SegmentBy (length H)) (SegmentBy (suc (length H))) (flagged stored here)
+        (λ s b. let c = segment_by_more (length H) (suc (length H)) (omega arith) s b in
+        record { base = c.base; born = c.born; died = c.died; marks = c.marks })
+        P.segments w.by.segments;
+  };
+  versions_tell = versions_kept H e same P.versions w.by.versions w.versions_tell;
+  segments_tell = each-map (SegmentTells (H ▷ e)) (SegmentTells (H ▷ e)) (flagged stored here) (λ s t. t) P.segments
+      (segments_kept H e same P.segments w.by.segments w.segments_tell);
+  old = λ r n from to. ap (λ m. count_versions (is_visible r) n P.versions + m)
+      (total-map (λ s. cond (is_alive r s) (count_spots (is_unmarked r) n s.spots) 0) (flagged stored here) P.segments);
+  now = λ n.
+      ap (λ m. count_versions is_living n P.versions + m)
+      (total-map (λ s. cond (is_in_use s) (count_spots is_free n s.spots) 0) (flagged stored here) P.segments)
+      ∙ now_from_numbers H P w n ∙ ap size (sym (same n));
+  horizon_rises = omega arith;
+  horizon_by = omega (arith, w.horizon_by);
+  named = each-map (λ s. s.number ≤ last_segment H) (λ s. s.number ≤ last_segment (H ▷ e)) (flagged stored here) (λ s le. omega arith) P.segments w.named;
+})
 
 map_same : (f g : Segment → Segment) → ((s : Segment) → f s ≡ g s) → (segments : List Segment) → map f segments ≡ map g segments
 map_same f g same [] = refl
@@ -54,7 +56,7 @@ map_same f g same (s ∷ segments) = ap₂ ◌∷◌ (same s) (map_same f g same
 upload_flags : (number : ℕ) (P : Placement) → after_upload number P ≡ with_flags (λ s. cond (s.number == number) true s.stored) (λ s. s.here) P
 upload_flags number P =
     ap (λ segments. record P { segments = segments })
-        (map_same (λ s. cond (s.number == number) (store_segment s) s) (flagged (λ s. cond (s.number == number) true s.stored) (λ s. s.here)) (λ s. go s (s.number == number)) P.segments)
+    (map_same (λ s. cond (s.number == number) (store_segment s) s) (flagged (λ s. cond (s.number == number) true s.stored) (λ s. s.here)) (λ s. go s (s.number == number)) P.segments)
   where
     go : (s : Segment) (b : Bool) → cond b (store_segment s) s ≡ record s { stored = cond b true s.stored; here = s.here }
     go s true = refl
@@ -62,18 +64,19 @@ upload_flags number P =
 
 pub upload_sound : (H : History) (k number : ℕ) → IsSound H → IsSound (H ▷ entry_of k (Upload number))
 upload_sound H k number s = record {
-    held = held_kept H (entry_of k (Upload number)) (placement H) (after_upload number (placement H)) s.held refl refl
-        (shrinks_from H k (Upload number) (λ j n e. e)) (λ j n held e. e);
-    placed = subst (IsPlacedWell (H ▷ entry_of k (Upload number))) (sym (upload_flags number (placement H)))
-        (flagged_placed H (entry_of k (Upload number)) _ _ (placement H) s.placed (λ n. refl) refl);
-    pinned = pinned_kept H k (Upload number) (placement H) (λ o t. refl) s.pinned }
+  held = held_kept H (entry_of k (Upload number)) (placement H) (after_upload number (placement H)) s.held refl refl
+      (shrinks_from H k (Upload number) (λ j n e. e)) (λ j n held e. e);
+  placed = subst (IsPlacedWell (H ▷ entry_of k (Upload number))) (sym (upload_flags number (placement H)))
+      (flagged_placed H (entry_of k (Upload number)) _ _ (placement H) s.placed (λ n. refl) refl);
+  pinned = pinned_kept H k (Upload number) (placement H) (λ o t. refl) s.pinned;
+}
 
 -- the EVICT
 
 evict_flags : (numbers : List ℕ) (P : Placement) → after_evict numbers P ≡ with_flags (λ s. s.stored) (λ s. cond (contains_number numbers s.number) false s.here) P
 evict_flags numbers P =
     ap (λ segments. record P { segments = segments })
-        (map_same (λ s. cond (contains_number numbers s.number) (drop_file s) s) (flagged (λ s. s.stored) (λ s. cond (contains_number numbers s.number) false s.here)) (λ s. go s (contains_number numbers s.number)) P.segments)
+    (map_same (λ s. cond (contains_number numbers s.number) (drop_file s) s) (flagged (λ s. s.stored) (λ s. cond (contains_number numbers s.number) false s.here)) (λ s. go s (contains_number numbers s.number)) P.segments)
   where
     go : (s : Segment) (b : Bool) → cond b (drop_file s) s ≡ record s { stored = s.stored; here = cond b false s.here }
     go s true = refl
@@ -81,11 +84,12 @@ evict_flags numbers P =
 
 pub evict_sound : (H : History) (k : ℕ) (numbers : List ℕ) → IsSound H → IsSound (H ▷ entry_of k (Evict numbers))
 evict_sound H k numbers s = record {
-    held = held_kept H (entry_of k (Evict numbers)) (placement H) (after_evict numbers (placement H)) s.held refl refl
-        (shrinks_from H k (Evict numbers) (λ j n e. e)) (λ j n held e. e);
-    placed = subst (IsPlacedWell (H ▷ entry_of k (Evict numbers))) (sym (evict_flags numbers (placement H)))
-        (flagged_placed H (entry_of k (Evict numbers)) _ _ (placement H) s.placed (λ n. refl) refl);
-    pinned = pinned_kept H k (Evict numbers) (placement H) (λ o t. refl) s.pinned }
+  held = held_kept H (entry_of k (Evict numbers)) (placement H) (after_evict numbers (placement H)) s.held refl refl
+      (shrinks_from H k (Evict numbers) (λ j n e. e)) (λ j n held e. e);
+  placed = subst (IsPlacedWell (H ▷ entry_of k (Evict numbers))) (sym (evict_flags numbers (placement H)))
+      (flagged_placed H (entry_of k (Evict numbers)) _ _ (placement H) s.placed (λ n. refl) refl);
+  pinned = pinned_kept H k (Evict numbers) (placement H) (λ o t. refl) s.pinned;
+}
 
 -- the VACUUM
 
@@ -127,16 +131,16 @@ versions_left h n versions =
 vacuum_old : (h r n : ℕ) (P : Placement) → h ≤ r → count_at r n (after_vacuum h P) ≡ count_at r n P
 vacuum_old h r n P le =
     ap₂ ◌+◌
-        (total-filter (λ v. bit (v.id == n && is_visible r v)) (λ v. not (is_done h v.stop)) P.versions
-            ∙ total_same _ _ P.versions (each_all _ (version_removed h r n le) P.versions))
-        (total-filter (λ s. cond (is_alive r s) (count_spots (is_unmarked r) n s.spots) 0) (λ s. not (is_done h s.died)) P.segments
-            ∙ total_same _ _ P.segments (each_all _ (λ s. segment_removed h r (count_spots (is_unmarked r) n s.spots) le s) P.segments))
+    (total-filter (λ v. bit (v.id == n && is_visible r v)) (λ v. not (is_done h v.stop)) P.versions
+    ∙ total_same _ _ P.versions (each_all _ (version_removed h r n le) P.versions))
+    (total-filter (λ s. cond (is_alive r s) (count_spots (is_unmarked r) n s.spots) 0) (λ s. not (is_done h s.died)) P.segments
+    ∙ total_same _ _ P.segments (each_all _ (λ s. segment_removed h r (count_spots (is_unmarked r) n s.spots) le s) P.segments))
 
 vacuum_now : (h n : ℕ) (P : Placement) → count_now n (after_vacuum h P) ≡ count_now n P
 vacuum_now h n P =
     ap₂ ◌+◌ (versions_left h n P.versions)
-        (total-filter (λ s. cond (is_in_use s) (count_spots is_free n s.spots) 0) (λ s. not (is_done h s.died)) P.segments
-            ∙ total_same _ _ P.segments (each_all _ (λ s. segment_left h (count_spots is_free n s.spots) s) P.segments))
+    (total-filter (λ s. cond (is_in_use s) (count_spots is_free n s.spots) 0) (λ s. not (is_done h s.died)) P.segments
+    ∙ total_same _ _ P.segments (each_all _ (λ s. segment_left h (count_spots is_free n s.spots) s) P.segments))
 
 -- the new horizon
 
@@ -189,29 +193,32 @@ least_rises H low le pins = least_no_less H low pins sessions each_session (leng
 
 vacuum_placed : (H : History) (k h : ℕ) → IsSound H → h ≡ least_needed H → IsPlacedWell (H ▷ entry_of k (Vacuum h)) (after_vacuum h (placement H))
 vacuum_placed H k h s at = placed_step H (entry_of k (Vacuum h)) (placement H) (after_vacuum h (placement H)) s.placed (record {
-    by = record {
-        versions = each-filter (VersionBy (suc (length H))) (λ v. not (is_done h v.stop)) (placement H).versions more.versions;
-        segments = each-filter (SegmentBy (suc (length H))) (λ s. not (is_done h s.died)) (placement H).segments more.segments };
-    versions_tell = each-filter (VersionTells (H ▷ entry_of k (Vacuum h))) (λ v. not (is_done h v.stop)) (placement H).versions
-        (versions_kept H (entry_of k (Vacuum h)) (λ n. refl) (placement H).versions s.placed.by.versions s.placed.versions_tell);
-    segments_tell = each-filter (SegmentTells (H ▷ entry_of k (Vacuum h))) (λ s. not (is_done h s.died)) (placement H).segments
-        (segments_kept H (entry_of k (Vacuum h)) (λ n. refl) (placement H).segments s.placed.by.segments s.placed.segments_tell);
-    old = λ r n from to. vacuum_old h r n (placement H) from;
-    now = λ n. vacuum_now h n (placement H) ∙ now_from_numbers H (placement H) s.placed n;
-    horizon_rises = omega (arith, at, least_rises H (placement H).horizon s.placed.horizon_by s.pinned);
-    horizon_by = omega (arith, at, least_by H);
-    named = each-filter (λ g. g.number ≤ last_segment H) (λ g. not (is_done h g.died)) (placement H).segments s.placed.named })
+  by = record {
+    versions = each-filter (VersionBy (suc (length H))) (λ v. not (is_done h v.stop)) (placement H).versions more.versions;
+    segments = each-filter (SegmentBy (suc (length H))) (λ s. not (is_done h s.died)) (placement H).segments more.segments;
+  };
+  versions_tell = each-filter (VersionTells (H ▷ entry_of k (Vacuum h))) (λ v. not (is_done h v.stop)) (placement H).versions
+      (versions_kept H (entry_of k (Vacuum h)) (λ n. refl) (placement H).versions s.placed.by.versions s.placed.versions_tell);
+  segments_tell = each-filter (SegmentTells (H ▷ entry_of k (Vacuum h))) (λ s. not (is_done h s.died)) (placement H).segments
+      (segments_kept H (entry_of k (Vacuum h)) (λ n. refl) (placement H).segments s.placed.by.segments s.placed.segments_tell);
+  old = λ r n from to. vacuum_old h r n (placement H) from;
+  now = λ n. vacuum_now h n (placement H) ∙ now_from_numbers H (placement H) s.placed n;
+  horizon_rises = omega (arith, at, least_rises H (placement H).horizon s.placed.horizon_by s.pinned);
+  horizon_by = omega (arith, at, least_by H);
+  named = each-filter (λ g. g.number ≤ last_segment H) (λ g. not (is_done h g.died)) (placement H).segments s.placed.named;
+})
   where
     more : PlacedBy (suc (length H)) (placement H)
     more = placed_by_more (length H) (suc (length H)) (omega arith) (placement H) s.placed.by
 
 pub vacuum_sound : (H : History) (k h : ℕ) → IsSound H → VacuumFits H k h → IsSound (H ▷ entry_of k (Vacuum h))
 vacuum_sound H k h s f = record {
-    held = held_kept H (entry_of k (Vacuum h)) (placement H) (after_vacuum h (placement H)) s.held refl refl
-        (shrinks_from H k (Vacuum h) (λ j n e. e))
-        (λ j n held e.
-            counts_any (λ v. v.id == n && is_living v) (after_vacuum h (placement H)).versions
-                (omega (arith, versions_left h n (placement H).versions, any_counts (λ v. v.id == n && is_living v) (placement H).versions e)));
-    placed = vacuum_placed H k h s f.least;
-    pinned = λ j u session pin.
-        omega (arith, f.least, least_pinned H j u session (sym (pin_of_other H k (Vacuum h) (λ o t. refl) j) ∙ pin)) }
+  held = held_kept H (entry_of k (Vacuum h)) (placement H) (after_vacuum h (placement H)) s.held refl refl
+      (shrinks_from H k (Vacuum h) (λ j n e. e))
+      (λ j n held e.
+      counts_any (λ v. v.id == n && is_living v) (after_vacuum h (placement H)).versions
+      (omega (arith, versions_left h n (placement H).versions, any_counts (λ v. v.id == n && is_living v) (placement H).versions e)));
+  placed = vacuum_placed H k h s f.least;
+  pinned = λ j u session pin.
+      omega (arith, f.least, least_pinned H j u session (sym (pin_of_other H k (Vacuum h) (λ o t. refl) j) ∙ pin));
+}

@@ -31,22 +31,25 @@ use Rattle.s2_model.proofs.Chosen.{count_rows, rising_count}
 
 empty_sound : IsSound []
 empty_sound = record {
-    held = record {
-        live = λ k n held has. absurd (false≢true held);
-        apart = λ j k n a b. absurd (false≢true a);
-        below = λ k n held. absurd (false≢true held);
-        sessions = λ k n held. absurd (false≢true held);
-        rows_below = λ n has. absurd (false≢true has);
-        rising = refl;
-        above = λ k n held. absurd (false≢true held) };
-    placed = record {
-        by = record { versions = tt; segments = tt };
-        versions_tell = tt;
-        segments_tell = tt;
-        numbers = λ r n from to. refl;
-        horizon_by = omega arith;
-        named = tt };
-    pinned = λ k u session pin. absurd (cc) }
+  held = record {
+    live = λ k n held has. absurd (false≢true held);
+    apart = λ j k n a b. absurd (false≢true a);
+    below = λ k n held. absurd (false≢true held);
+    sessions = λ k n held. absurd (false≢true held);
+    rows_below = λ n has. absurd (false≢true has);
+    rising = refl;
+    above = λ k n held. absurd (false≢true held);
+  };
+  placed = record {
+    by = record { versions = tt; segments = tt };
+    versions_tell = tt;
+    segments_tell = tt;
+    numbers = λ r n from to. refl;
+    horizon_by = omega arith;
+    named = tt;
+  };
+  pinned = λ k u session pin. absurd (cc);
+}
 
 sound_step : (schema : Schema) (options : Options) (H : History) (k : ℕ) (w : What) → AllFit schema options H → ((r : ℕ) → IsSound (upto r H)) → IsSound H
     → FitsAs schema options H k w → IsSound (H ▷ entry_of k w)
@@ -67,11 +70,11 @@ pub sound_at : (schema : Schema) (options : Options) (H : History) → AllFit sc
 sound_at schema options [] fit r = empty_sound
 sound_at schema options (H ▷ e) fit r =
     ⊎_elim
-        (λ lt. subst IsSound (sym (upto_all r (H ▷ e) lt))
-            (sound_step schema options H e.actor e.what fit.0 (sound_at schema options H fit.0)
-                (subst IsSound (upto_whole H) (sound_at schema options H fit.0 (length H))) fit.1))
-        (λ past. subst IsSound (sym (upto_past r H e past)) (sound_at schema options H fit.0 r))
-        (cases_lt (length H) r)
+    (λ lt. subst IsSound (sym (upto_all r (H ▷ e) lt))
+    (sound_step schema options H e.actor e.what fit.0 (sound_at schema options H fit.0)
+    (subst IsSound (upto_whole H) (sound_at schema options H fit.0 (length H))) fit.1))
+    (λ past. subst IsSound (sym (upto_past r H e past)) (sound_at schema options H fit.0 r))
+    (cases_lt (length H) r)
 
 pub sound : (schema : Schema) (options : Options) (H : History) → AllFit schema options H → IsSound H
 sound schema options H fit = subst IsSound (upto_whole H) (sound_at schema options H fit (length H))
@@ -106,18 +109,18 @@ base_rows H b r le (x ∷ spots) a = go (row_then H b x.id) (a.0 r le (omega ari
 placed_have : (H : History) → IsSound H → (r : ℕ) → r ≤ length H → Each (HasRow H r) (placed_rows r H)
 placed_have H s r le =
     each-append (HasRow H r) (visible_rows r (placement H).versions) (segment_rows r H (placement H).segments)
-        (each-map (λ v. row_then H r v.id ≡ Some v.row) (HasRow H r) (λ v. (v.id, v.row)) (λ v e. e) (filter (is_visible r) (placement H).versions)
-            (filter_with (is_visible r) (λ v. row_then H r v.id ≡ Some v.row) (placement H).versions
-                (each_weaker (VersionTells H) (λ v. is_visible r v ≡ true → row_then H r v.id ≡ Some v.row) (λ v tells seen. tells r le seen) (placement H).versions s.placed.versions_tell)))
-        (each_flat (HasRow H r) (λ g. rows_at_base H g.base (filter (is_unmarked r) g.spots)) (filter (is_alive r) (placement H).segments)
-            (filter_with (is_alive r) (λ g. Each (HasRow H r) (rows_at_base H g.base (filter (is_unmarked r) g.spots))) (placement H).segments
-                (each_both (SegmentBy (length H)) (SegmentTells H) (λ g. is_alive r g ≡ true → Each (HasRow H r) (rows_at_base H g.base (filter (is_unmarked r) g.spots)))
-                    (λ g by tells alive.
-                        base_rows H g.base r (omega (arith, by.base, leb-true g.born r (and_parts (nat_le g.born r) (not (is_done r g.died)) alive).0))
-                            (filter (is_unmarked r) g.spots)
-                            (filter_with (is_unmarked r) (λ x. Lasts H g.base x.id r) g.spots
-                                (each_weaker (SpotTells H g) (λ x. is_unmarked r x ≡ true → Lasts H g.base x.id r) (λ x t unmarked. t r le alive unmarked) g.spots tells)))
-                    (placement H).segments s.placed.by.segments s.placed.segments_tell)))
+    (each-map (λ v. row_then H r v.id ≡ Some v.row) (HasRow H r) (λ v. (v.id, v.row)) (λ v e. e) (filter (is_visible r) (placement H).versions)
+    (filter_with (is_visible r) (λ v. row_then H r v.id ≡ Some v.row) (placement H).versions
+    (each_weaker (VersionTells H) (λ v. is_visible r v ≡ true → row_then H r v.id ≡ Some v.row) (λ v tells seen. tells r le seen) (placement H).versions s.placed.versions_tell)))
+    (each_flat (HasRow H r) (λ g. rows_at_base H g.base (filter (is_unmarked r) g.spots)) (filter (is_alive r) (placement H).segments)
+    (filter_with (is_alive r) (λ g. Each (HasRow H r) (rows_at_base H g.base (filter (is_unmarked r) g.spots))) (placement H).segments
+    (each_both (SegmentBy (length H)) (SegmentTells H) (λ g. is_alive r g ≡ true → Each (HasRow H r) (rows_at_base H g.base (filter (is_unmarked r) g.spots)))
+    (λ g by tells alive.
+    base_rows H g.base r (omega (arith, by.base, leb-true g.born r (and_parts (nat_le g.born r) (not (is_done r g.died)) alive).0))
+    (filter (is_unmarked r) g.spots)
+    (filter_with (is_unmarked r) (λ x. Lasts H g.base x.id r) g.spots
+    (each_weaker (SpotTells H g) (λ x. is_unmarked r x ≡ true → Lasts H g.base x.id r) (λ x t unmarked. t r le alive unmarked) g.spots tells)))
+    (placement H).segments s.placed.by.segments s.placed.segments_tell)))
 
 -- and each number is placed as often as the content has it
 
@@ -126,7 +129,7 @@ versions_count r n versions =
     total-map (λ p. bit (p.0 == n)) (λ v. (v.id, v.row)) (filter (is_visible r) versions)
     ∙ total-filter (λ v. bit (v.id == n)) (is_visible r) versions
     ∙ total_same (λ v. cond (is_visible r v) (bit (v.id == n)) 0) (λ v. bit (v.id == n && is_visible r v)) versions
-        (each_all _ (λ v. go (is_visible r v) (v.id == n)) versions)
+    (each_all _ (λ v. go (is_visible r v) (v.id == n)) versions)
   where
     go : (b c : Bool) → cond b (bit c) 0 ≡ bit (c && b)
     go true true = refl
@@ -151,6 +154,7 @@ spots_count H b r n (x ∷ spots) a = go (is_unmarked r x) refl (spots_count H b
         at : (c : Bool) → bit c ≡ bit (c && true)
         at true = refl
         at false = refl
+
     go : (c : Bool) → is_unmarked r x ≡ c → count_rows n (rows_at_base H b (filter (is_unmarked r) spots)) ≡ count_spots (is_unmarked r) n spots
         → count_rows n (rows_at_base H b (cond c (x ∷ filter (is_unmarked r) spots) (filter (is_unmarked r) spots))) ≡ bit (x.id == n && c) + count_spots (is_unmarked r) n spots
     go true e ih = with_row (row_then H b x.id) (a.0 e) ih
@@ -167,7 +171,7 @@ segments_count H r n (g ∷ segments) a = go (is_alive r g) refl (segments_count
   where
     go : (c : Bool) → is_alive r g ≡ c → count_rows n (segment_rows r H segments) ≡ count_segments (is_alive r) (is_unmarked r) n segments
         → count_rows n (flat_map (λ s. rows_at_base H s.base (filter (is_unmarked r) s.spots)) (cond c (g ∷ filter (is_alive r) segments) (filter (is_alive r) segments)))
-          ≡ cond c (count_spots (is_unmarked r) n g.spots) 0 + count_segments (is_alive r) (is_unmarked r) n segments
+        ≡ cond c (count_spots (is_unmarked r) n g.spots) 0 + count_segments (is_alive r) (is_unmarked r) n segments
     go true e ih =
         total-append (λ p. bit (p.0 == n)) (rows_at_base H g.base (filter (is_unmarked r) g.spots)) (segment_rows r H segments)
         ∙ ap₂ ◌+◌ (spots_count H g.base r n g.spots (a.0 e)) ih
@@ -177,17 +181,17 @@ spots_have : (H : History) → IsSound H → (r : ℕ) → (placement H).horizon
     → Each (λ g. is_alive r g ≡ true → Each (SpotHas H g.base r) g.spots) (placement H).segments
 spots_have H s r from to =
     each_both (λ g. SegmentBy (length H) g × SegmentTells H g)
-        (λ g. Each (λ x. is_alive r g ≡ true → is_unmarked r x ≡ true → 1 ≤ count_segments (is_alive r) (is_unmarked r) x.id (placement H).segments) g.spots)
-        (λ g. is_alive r g ≡ true → Each (SpotHas H g.base r) g.spots)
-        (λ g b counts alive.
-            each_both (SpotTells H g) (λ x. is_alive r g ≡ true → is_unmarked r x ≡ true → 1 ≤ count_segments (is_alive r) (is_unmarked r) x.id (placement H).segments) (SpotHas H g.base r)
-                (λ x tells count unmarked.
-                    ap is_some (sym (tells r to alive unmarked r (omega (arith, b.0.base, leb-true g.born r (and_parts (nat_le g.born r) (not (is_done r g.died)) alive).0)) (omega arith)))
-                    ∙ some_from_size (row_then H r x.id) (omega (arith, count alive unmarked, s.placed.numbers r x.id from to)))
-                g.spots b.1 counts)
-        (placement H).segments
-        (each_both (SegmentBy (length H)) (SegmentTells H) (λ g. SegmentBy (length H) g × SegmentTells H g) (λ g a b. (a, b)) (placement H).segments s.placed.by.segments s.placed.segments_tell)
-        (places_counted (is_alive r) (is_unmarked r) (placement H).segments)
+    (λ g. Each (λ x. is_alive r g ≡ true → is_unmarked r x ≡ true → 1 ≤ count_segments (is_alive r) (is_unmarked r) x.id (placement H).segments) g.spots)
+    (λ g. is_alive r g ≡ true → Each (SpotHas H g.base r) g.spots)
+    (λ g b counts alive.
+    each_both (SpotTells H g) (λ x. is_alive r g ≡ true → is_unmarked r x ≡ true → 1 ≤ count_segments (is_alive r) (is_unmarked r) x.id (placement H).segments) (SpotHas H g.base r)
+    (λ x tells count unmarked.
+    ap is_some (sym (tells r to alive unmarked r (omega (arith, b.0.base, leb-true g.born r (and_parts (nat_le g.born r) (not (is_done r g.died)) alive).0)) (omega arith)))
+    ∙ some_from_size (row_then H r x.id) (omega (arith, count alive unmarked, s.placed.numbers r x.id from to)))
+    g.spots b.1 counts)
+    (placement H).segments
+    (each_both (SegmentBy (length H)) (SegmentTells H) (λ g. SegmentBy (length H) g × SegmentTells H g) (λ g a b. (a, b)) (placement H).segments s.placed.by.segments s.placed.segments_tell)
+    (places_counted (is_alive r) (is_unmarked r) (placement H).segments)
 
 placed_count : (H : History) → IsSound H → (r n : ℕ) → (placement H).horizon ≤ r → r ≤ length H → count_rows n (placed_rows r H) ≡ size (row_then H r n)
 placed_count H s r n from to =
@@ -277,11 +281,11 @@ same_first : (p q : ℕ × RowOf) (rows table : Table) → from_low p.0 rows ≡
     → ((n : ℕ) → count_rows n (p ∷ rows) ≡ count_rows n (q ∷ table)) → p.0 ≡ q.0
 same_first p q rows table low up counts =
     ⊎_elim (λ same. same)
-        (λ other. ⊎_elim
-            (λ less. absurd (omega (arith, counts p.0, bit_same p.0, bit_other q.0 p.0 (λ e. omega arith), none_at_low p.0 q.0 table (omega arith) up)))
-            (λ more. absurd (omega (arith, counts q.0, bit_same q.0, bit_other p.0 q.0 (λ e. omega arith), none_below q.0 p.0 rows more low)))
-            other)
-        (cases_order p.0 q.0)
+    (λ other. ⊎_elim
+    (λ less. absurd (omega (arith, counts p.0, bit_same p.0, bit_other q.0 p.0 (λ e. omega arith), none_at_low p.0 q.0 table (omega arith) up)))
+    (λ more. absurd (omega (arith, counts q.0, bit_same q.0, bit_other p.0 q.0 (λ e. omega arith), none_below q.0 p.0 rows more low)))
+    other)
+    (cases_order p.0 q.0)
 
 ordered_is : (rows table : Table) (a b : ℕ) → from_low a rows ≡ true → rises_above b table ≡ true
     → ((n : ℕ) → count_rows n rows ≡ count_rows n table) → Each (λ p. row_at table p.0 ≡ Some p.1) rows → rows ≡ table
@@ -294,15 +298,16 @@ ordered_is (p ∷ rows) (q ∷ table) a b low up counts each =
     let at : p.0 ≡ q.0 = same_first p q rows table lower.1 upper counts in
     let row : q.1 ≡ p.1 = value (q.0 == p.0) (eq-eqb q.0 p.0 (sym at)) each.0 in
     ap₂ ◌∷◌ (ap₂ (λ n x. (n, x)) at (sym row))
-        (ordered_is rows table p.0 q.0 lower.1 upper (λ n. omega (arith, counts n, ap (λ m. bit (m == n)) at))
-            (each_both (λ r. row_at (q ∷ table) r.0 ≡ Some r.1) (λ r. (r.0 == q.0) ≡ false) (λ r. row_at table r.0 ≡ Some r.1)
-                (λ r e other. sym (cond-false (q.0 == r.0) (Some q.1) (row_at table r.0) (ne_eqb q.0 r.0 (λ f. eqb-false r.0 q.0 other (sym f)))) ∙ e)
-                rows each.1
-                (others q.0 rows (omega (arith, counts q.0, bit_same q.0, ap (λ m. bit (m == q.0)) at, none_at_low q.0 q.0 table (omega arith) upper)))))
+    (ordered_is rows table p.0 q.0 lower.1 upper (λ n. omega (arith, counts n, ap (λ m. bit (m == n)) at))
+    (each_both (λ r. row_at (q ∷ table) r.0 ≡ Some r.1) (λ r. (r.0 == q.0) ≡ false) (λ r. row_at table r.0 ≡ Some r.1)
+    (λ r e other. sym (cond-false (q.0 == r.0) (Some q.1) (row_at table r.0) (ne_eqb q.0 r.0 (λ f. eqb-false r.0 q.0 other (sym f)))) ∙ e)
+    rows each.1
+    (others q.0 rows (omega (arith, counts q.0, bit_same q.0, ap (λ m. bit (m == q.0)) at, none_at_low q.0 q.0 table (omega arith) upper)))))
   where
     rest : (c d : Bool) → cond c d false ≡ true → d ≡ true
     rest true d e = e
     rest false d e = absurd (false≢true e)
+
     value : (c : Bool) → c ≡ true → cond c (Some q.1) (row_at table p.0) ≡ Some p.1 → q.1 ≡ p.1
     value true f e = cc
     value false f e = absurd (false≢true f)
@@ -311,13 +316,15 @@ ordered_is (p ∷ rows) (q ∷ table) a b low up counts each =
 
 pub placed_is_state : (H : History) → ((r : ℕ) → IsSound (upto r H)) → IsSound H → PlacedIsState H
 placed_is_state H sounds s = record {
-    rows = λ r from to.
-        ordered_is (by_number (placed_rows r H)) (state (upto r H)) 0 0 (low_ordered (placed_rows r H)) (sounds r).held.rising
-            (λ n. ordered_count n (placed_rows r H) ∙ placed_count H s r n from to ∙ sym (rising_count 0 n (state (upto r H)) (sounds r).held.rising))
-            (ordered_each (HasRow H r) (placed_rows r H) (placed_have H s r to));
-    once = λ r. (sounds r).held.rising }
+  rows = λ r from to.
+      ordered_is (by_number (placed_rows r H)) (state (upto r H)) 0 0 (low_ordered (placed_rows r H)) (sounds r).held.rising
+      (λ n. ordered_count n (placed_rows r H) ∙ placed_count H s r n from to ∙ sym (rising_count 0 n (state (upto r H)) (sounds r).held.rising))
+      (ordered_each (HasRow H r) (placed_rows r H) (placed_have H s r to));
+  once = λ r. (sounds r).held.rising;
+}
 
 pub histories_are_placed : HistoriesArePlaced
 histories_are_placed schema options H fit = record {
-    placed = placed_is_state H (sound_at schema options H fit) (sound schema options H fit);
-    stored = (sound schema options H fit).held.live }
+  placed = placed_is_state H (sound_at schema options H fit) (sound schema options H fit);
+  stored = (sound schema options H fit).held.live;
+}

@@ -46,8 +46,13 @@ one_column = record { table = codes "t"; cols = int_column (codes "id") ∷ []; 
 
 abbrev two_columns : Schema
 two_columns = record {
-    table = codes "t"; cols = int_column (codes "id") ∷ text_column (codes "v") ∷ [];
-    uniques = (0 ∷ []) ∷ []; indexes = []; sort = 0 ∷ []; within = refl }
+  table = codes "t";
+  cols = int_column (codes "id") ∷ text_column (codes "v") ∷ [];
+  uniques = (0 ∷ []) ∷ [];
+  indexes = [];
+  sort = 0 ∷ [];
+  within = refl;
+}
 
 abbrev merging : Options
 merging = record { segment_rows = 4096; flush_rows = 1; fanout = 2; cache = 16; workers = true; within = refl }
@@ -72,18 +77,37 @@ move_races_merge =
 
 move_races_merge_fits : AllFit two_columns merging move_races_merge
 unfolding sessions is_held is_held_by_other file_order tiers plan
-move_races_merge_fits =
-    ((((((((((tt,
-    record { by = refl; some = refl; most = refl; rising = refl; rows = refl; old = refl; new = refl }),
-    refl),
-    record { by = refl; number = refl; base = omega arith; some = refl; rows = refl; marks = refl; not_all = refl }),
-    record { by = refl; some = refl; most = refl; rising = refl; rows = refl; old = refl; new = refl }),
-    refl),
-    record { by = refl; number = refl; base = omega arith; some = refl; rows = refl; marks = refl; not_all = refl }),
-    record { by = refl; some = refl; rising = refl; free = refl }),
-    record { by = refl; some = refl; most = refl; rising = refl; rows = refl; old = refl; new = refl }),
-    refl),
-    record { by = refl; base = omega arith; olds = refl; alive = refl; news = refl; marks = refl })
+move_races_merge_fits = (
+  (
+    (
+      (
+        (
+          (
+            (
+              (
+                (
+                  (
+                    tt,
+                    record { by = refl; some = refl; most = refl; rising = refl; rows = refl; old = refl; new = refl },
+                  ),
+                  refl,
+                ),
+                record { by = refl; number = refl; base = omega arith; some = refl; rows = refl; marks = refl; not_all = refl },
+              ),
+              record { by = refl; some = refl; most = refl; rising = refl; rows = refl; old = refl; new = refl },
+            ),
+            refl,
+          ),
+          record { by = refl; number = refl; base = omega arith; some = refl; rows = refl; marks = refl; not_all = refl },
+        ),
+        record { by = refl; some = refl; rising = refl; free = refl },
+      ),
+      record { by = refl; some = refl; most = refl; rising = refl; rows = refl; old = refl; new = refl },
+    ),
+    refl,
+  ),
+  record { by = refl; base = omega arith; olds = refl; alive = refl; news = refl; marks = refl },
+)
 
 move_races_merge_placed : by_number (placed_rows 10 move_races_merge) ≡ (1, pair 2 (codes "z")) ∷ (2, pair 1 (codes "a")) ∷ []
 move_races_merge_placed = refl
@@ -105,14 +129,25 @@ flush_races_update =
 
 flush_races_update_fits : AllFit two_columns default_options flush_races_update
 unfolding sessions is_held is_held_by_other file_order tiers plan least_needed
-flush_races_update_fits =
-    ((((((tt,
-    record { by = refl; some = refl; most = refl; rising = refl; rows = refl; old = refl; new = refl }),
-    refl),
-    record { by = refl; idle = refl }),
-    record { by = refl; some = refl; most = refl; rising = refl; rows = refl; old = refl; new = refl }),
-    record { by = refl; number = refl; base = omega arith; some = refl; rows = refl; marks = refl; not_all = refl }),
-    refl)
+flush_races_update_fits = (
+  (
+    (
+      (
+        (
+          (
+            tt,
+            record { by = refl; some = refl; most = refl; rising = refl; rows = refl; old = refl; new = refl },
+          ),
+          refl,
+        ),
+        record { by = refl; idle = refl },
+      ),
+      record { by = refl; some = refl; most = refl; rising = refl; rows = refl; old = refl; new = refl },
+    ),
+    record { by = refl; number = refl; base = omega arith; some = refl; rows = refl; marks = refl; not_all = refl },
+  ),
+  refl,
+)
 
 flush_races_update_placed : placed_rows 6 flush_races_update ≡ (1, pair 1 (codes "a")) ∷ (2, pair 2 (codes "b")) ∷ []
 flush_races_update_placed = refl
@@ -137,21 +172,46 @@ pin_reads_old =
 
 pin_reads_old_fits : AllFit one_column merging pin_reads_old
 unfolding sessions is_held is_held_by_other file_order tiers plan least_needed
-pin_reads_old_fits =
-    (((((((((((((tt,
-    record { by = refl; some = refl; most = refl; rising = refl; rows = refl; old = refl; new = refl }),
-    refl),
-    record { by = refl; number = refl; base = omega arith; some = refl; rows = refl; marks = refl; not_all = refl }),
-    record { by = refl; some = refl; most = refl; rising = refl; rows = refl; old = refl; new = refl }),
-    refl),
-    record { by = refl; number = refl; base = omega arith; some = refl; rows = refl; marks = refl; not_all = refl }),
-    record { by = refl; idle = refl }),
-    record { by = refl; some = refl; rising = refl; free = refl }),
-    record { by = refl; some = refl; most = refl; rising = refl; rows = refl; old = refl; new = refl }),
-    refl),
-    record { by = refl; base = omega arith; olds = refl; alive = refl; news = refl; marks = refl }),
-    record { by = refl; least = refl }),
-    refl)
+pin_reads_old_fits = (
+  (
+    (
+      (
+        (
+          (
+            (
+              (
+                (
+                  (
+                    (
+                      (
+                        (
+                          tt,
+                          record { by = refl; some = refl; most = refl; rising = refl; rows = refl; old = refl; new = refl },
+                        ),
+                        refl,
+                      ),
+                      record { by = refl; number = refl; base = omega arith; some = refl; rows = refl; marks = refl; not_all = refl },
+                    ),
+                    record { by = refl; some = refl; most = refl; rising = refl; rows = refl; old = refl; new = refl },
+                  ),
+                  refl,
+                ),
+                record { by = refl; number = refl; base = omega arith; some = refl; rows = refl; marks = refl; not_all = refl },
+              ),
+              record { by = refl; idle = refl },
+            ),
+            record { by = refl; some = refl; rising = refl; free = refl },
+          ),
+          record { by = refl; some = refl; most = refl; rising = refl; rows = refl; old = refl; new = refl },
+        ),
+        refl,
+      ),
+      record { by = refl; base = omega arith; olds = refl; alive = refl; news = refl; marks = refl },
+    ),
+    record { by = refl; least = refl },
+  ),
+  refl,
+)
 
 pin_reads_old_placed : by_number (placed_rows 7 pin_reads_old) ≡ (1, number 1) ∷ (2, number 2) ∷ []
 pin_reads_old_placed = refl
@@ -166,8 +226,13 @@ pin_reads_old_after = refl
 
 abbrev int_columns : Schema
 int_columns = record {
-    table = codes "t"; cols = int_column (codes "id") ∷ int_column (codes "v") ∷ [];
-    uniques = []; indexes = []; sort = []; within = refl }
+  table = codes "t";
+  cols = int_column (codes "id") ∷ int_column (codes "v") ∷ [];
+  uniques = [];
+  indexes = [];
+  sort = [];
+  within = refl;
+}
 
 abbrev numbers : ℕ → ℕ → RowOf
 numbers a b = Int (pos a) ∷ Int (pos b) ∷ []
@@ -187,18 +252,37 @@ move_once =
 
 move_once_fits : AllFit int_columns default_options move_once
 unfolding sessions is_held is_held_by_other file_order tiers plan least_needed
-move_once_fits =
-    ((((((((((tt,
-    record { by = refl; some = refl; most = refl; rising = refl; rows = refl; old = refl; new = refl }),
-    refl),
-    record { by = refl; number = refl; base = omega arith; some = refl; rows = refl; marks = refl; not_all = refl }),
-    record { by = refl; idle = refl }),
-    record { by = refl; some = refl; rising = refl; free = refl }),
-    record { by = refl; some = refl; most = refl; rising = refl; rows = refl; old = refl; new = refl }),
-    refl),
-    record { by = refl; some = refl; most = refl; rising = refl; rows = refl; old = refl; new = refl }),
-    refl),
-    record { by = refl; number = refl; base = omega arith; some = refl; rows = refl; marks = refl; not_all = refl })
+move_once_fits = (
+  (
+    (
+      (
+        (
+          (
+            (
+              (
+                (
+                  (
+                    tt,
+                    record { by = refl; some = refl; most = refl; rising = refl; rows = refl; old = refl; new = refl },
+                  ),
+                  refl,
+                ),
+                record { by = refl; number = refl; base = omega arith; some = refl; rows = refl; marks = refl; not_all = refl },
+              ),
+              record { by = refl; idle = refl },
+            ),
+            record { by = refl; some = refl; rising = refl; free = refl },
+          ),
+          record { by = refl; some = refl; most = refl; rising = refl; rows = refl; old = refl; new = refl },
+        ),
+        refl,
+      ),
+      record { by = refl; some = refl; most = refl; rising = refl; rows = refl; old = refl; new = refl },
+    ),
+    refl,
+  ),
+  record { by = refl; number = refl; base = omega arith; some = refl; rows = refl; marks = refl; not_all = refl },
+)
 
 move_once_placed : placed_rows 10 move_once ≡ (1, numbers 1 12) ∷ []
 move_once_placed = refl
@@ -217,15 +301,28 @@ two_mergers =
 
 two_mergers_fits : AllFit one_column merging two_mergers
 unfolding sessions is_held is_held_by_other file_order tiers plan least_needed
-two_mergers_fits =
-    (((((((tt,
-    record { by = refl; some = refl; most = refl; rising = refl; rows = refl; old = refl; new = refl }),
-    refl),
-    record { by = refl; number = refl; base = omega arith; some = refl; rows = refl; marks = refl; not_all = refl }),
-    record { by = refl; some = refl; most = refl; rising = refl; rows = refl; old = refl; new = refl }),
-    refl),
-    record { by = refl; number = refl; base = omega arith; some = refl; rows = refl; marks = refl; not_all = refl }),
-    record { by = refl; base = omega arith; olds = refl; alive = refl; news = refl; marks = refl })
+two_mergers_fits = (
+  (
+    (
+      (
+        (
+          (
+            (
+              tt,
+              record { by = refl; some = refl; most = refl; rising = refl; rows = refl; old = refl; new = refl },
+            ),
+            refl,
+          ),
+          record { by = refl; number = refl; base = omega arith; some = refl; rows = refl; marks = refl; not_all = refl },
+        ),
+        record { by = refl; some = refl; most = refl; rising = refl; rows = refl; old = refl; new = refl },
+      ),
+      refl,
+    ),
+    record { by = refl; number = refl; base = omega arith; some = refl; rows = refl; marks = refl; not_all = refl },
+  ),
+  record { by = refl; base = omega arith; olds = refl; alive = refl; news = refl; marks = refl },
+)
 
 two_mergers_first : WorksAs one_column merging (upto 6 two_mergers) 6 (Some 6) (λ n. false) MergeEnd (Merged (3 ∷ []))
     (Merge (record { base = 6; olds = 1 ∷ 2 ∷ []; news = (3, 1 ∷ 2 ∷ []) ∷ []; marked = [] }) ∷ [])
@@ -240,9 +337,13 @@ two_mergers_second = record { olds = 1 ∷ 2 ∷ []; begins = refl; ends = (refl
 
 abbrev orders_table : Schema
 orders_table = record {
-    table = codes "orders";
-    cols = int_column (codes "id") ∷ text_column (codes "sku") ∷ text_column (codes "status") ∷ int_column (codes "cents") ∷ [];
-    uniques = (0 ∷ []) ∷ []; indexes = (1 ∷ []) ∷ []; sort = 1 ∷ 0 ∷ []; within = refl }
+  table = codes "orders";
+  cols = int_column (codes "id") ∷ text_column (codes "sku") ∷ text_column (codes "status") ∷ int_column (codes "cents") ∷ [];
+  uniques = (0 ∷ []) ∷ [];
+  indexes = (1 ∷ []) ∷ [];
+  sort = 1 ∷ 0 ∷ [];
+  within = refl;
+}
 
 abbrev order_row : ℕ → List ℕ → List ℕ → ℕ → RowOf
 order_row id sku status cents = Int (pos id) ∷ Text sku ∷ Text status ∷ Int (pos cents) ∷ []
@@ -258,14 +359,25 @@ orders =
 
 orders_fits : AllFit orders_table default_options orders
 unfolding sessions is_held is_held_by_other file_order tiers plan least_needed
-orders_fits =
-    ((((((tt,
-    record { by = refl; some = refl; most = refl; rising = refl; rows = refl; old = refl; new = refl }),
-    refl),
-    record { by = refl; number = refl; base = omega arith; some = refl; rows = refl; marks = refl; not_all = refl }),
-    record { by = refl; some = refl; rising = refl; free = refl }),
-    record { by = refl; some = refl; most = refl; rising = refl; rows = refl; old = refl; new = refl }),
-    refl)
+orders_fits = (
+  (
+    (
+      (
+        (
+          (
+            tt,
+            record { by = refl; some = refl; most = refl; rising = refl; rows = refl; old = refl; new = refl },
+          ),
+          refl,
+        ),
+        record { by = refl; number = refl; base = omega arith; some = refl; rows = refl; marks = refl; not_all = refl },
+      ),
+      record { by = refl; some = refl; rising = refl; free = refl },
+    ),
+    record { by = refl; some = refl; most = refl; rising = refl; rows = refl; old = refl; new = refl },
+  ),
+  refl,
+)
 
 orders_placed : by_number (placed_rows 6 orders) ≡ state orders
 orders_placed = refl
@@ -282,13 +394,22 @@ evicted =
 
 evicted_fits : AllFit one_column default_options evicted
 unfolding sessions is_held is_held_by_other file_order tiers plan least_needed
-evicted_fits =
-    (((((tt,
-    record { by = refl; some = refl; most = refl; rising = refl; rows = refl; old = refl; new = refl }),
-    refl),
-    record { by = refl; number = refl; base = omega arith; some = refl; rows = refl; marks = refl; not_all = refl }),
-    record { by = refl; unstored = refl }),
-    record { by = refl; some = refl; all = refl })
+evicted_fits = (
+  (
+    (
+      (
+        (
+          tt,
+          record { by = refl; some = refl; most = refl; rising = refl; rows = refl; old = refl; new = refl },
+        ),
+        refl,
+      ),
+      record { by = refl; number = refl; base = omega arith; some = refl; rows = refl; marks = refl; not_all = refl },
+    ),
+    record { by = refl; unstored = refl },
+  ),
+  record { by = refl; some = refl; all = refl },
+)
 
 abbrev select_where : Pred → Stmt
 select_where pred = SelectStmt (record { items = Star; pred = pred; order = []; limit = None })
@@ -343,16 +464,31 @@ small_segments =
 
 small_segments_fit : AllFit one_column small small_segments
 unfolding sessions is_held is_held_by_other file_order tiers plan
-small_segments_fit =
-    ((((((((tt,
-    record { by = refl; some = refl; most = refl; rising = refl; rows = refl; old = refl; new = refl }),
-    refl),
-    record { by = refl; number = refl; base = omega arith; some = refl; rows = refl; marks = refl; not_all = refl }),
-    record { by = refl; number = refl; base = omega arith; some = refl; rows = refl; marks = refl; not_all = refl }),
-    record { by = refl; base = omega arith; olds = refl; alive = refl; news = refl; marks = refl }),
-    record { by = refl; number = refl; base = omega arith; some = refl; rows = refl; marks = refl; not_all = refl }),
-    record { by = refl; number = refl; base = omega arith; some = refl; rows = refl; marks = refl; not_all = refl }),
-    record { by = refl; base = omega arith; olds = refl; alive = refl; news = refl; marks = refl })
+small_segments_fit = (
+  (
+    (
+      (
+        (
+          (
+            (
+              (
+                tt,
+                record { by = refl; some = refl; most = refl; rising = refl; rows = refl; old = refl; new = refl },
+              ),
+              refl,
+            ),
+            record { by = refl; number = refl; base = omega arith; some = refl; rows = refl; marks = refl; not_all = refl },
+          ),
+          record { by = refl; number = refl; base = omega arith; some = refl; rows = refl; marks = refl; not_all = refl },
+        ),
+        record { by = refl; base = omega arith; olds = refl; alive = refl; news = refl; marks = refl },
+      ),
+      record { by = refl; number = refl; base = omega arith; some = refl; rows = refl; marks = refl; not_all = refl },
+    ),
+    record { by = refl; number = refl; base = omega arith; some = refl; rows = refl; marks = refl; not_all = refl },
+  ),
+  record { by = refl; base = omega arith; olds = refl; alive = refl; news = refl; marks = refl },
+)
 
 -- two runs of two rows are in tier 1
 small_segments_plan : plan small small_segments ≡ Some (3 ∷ 4 ∷ 7 ∷ 8 ∷ [])

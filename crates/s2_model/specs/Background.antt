@@ -42,19 +42,20 @@ flush_rows_at schema options H b = row_ids (takes schema options (upto b H))
 -- the FLUSH entry of base b that fits
 abbrev pub flush_note : Schema → Options → History → ℕ → FlushNote
 flush_note schema options H b = record {
-    seg = next_segment H;
-    base = b;
-    rows = flush_rows_at schema options H b;
-    marked = offsets_where (λ n. not (can_take b H n)) (flush_rows_at schema options H b) }
+  seg = next_segment H;
+  base = b;
+  rows = flush_rows_at schema options H b;
+  marked = offsets_where (λ n. not (can_take b H n)) (flush_rows_at schema options H b);
+}
 
 -- LogFull, Late where none of the rows can be taken any more, else the flush
 abbrev pub FlushEnds : Schema → Options → History → ℕ → Reply → List What → Type 0
 FlushEnds schema options H b said made =
     MatchBool (is_full H || nat_lt most_segments (next_segment H))
-        (Answers (Refused LogFull) [] said made)
-        (MatchBool (list_all (λ n. not (can_take b H n)) (flush_rows_at schema options H b))
-            (Answers (Late b) [] said made)
-            (Answers (Flushed (next_segment H)) (entry.Flush (flush_note schema options H b) ∷ []) said made))
+    (Answers (Refused LogFull) [] said made)
+    (MatchBool (list_all (λ n. not (can_take b H n)) (flush_rows_at schema options H b))
+    (Answers (Late b) [] said made)
+    (Answers (Flushed (next_segment H)) (entry.Flush (flush_note schema options H b) ∷ []) said made))
 
 abbrev pub is_flush_at : Schema → Options → History → ℕ → Bool
 is_flush_at schema options H b = not (is_none_left (takes schema options (upto b H)))
@@ -78,10 +79,11 @@ merge_news schema options H b olds = numbered (next_segment H) (merge_pieces sch
 -- the MERGE entry of base b that fits
 abbrev pub merge_note : Schema → Options → History → ℕ → List ℕ → MergeNote
 merge_note schema options H b olds = record {
-    base = b;
-    olds = olds;
-    news = merge_news schema options H b olds;
-    marked = carried_places olds (placement H).segments (merge_news schema options H b olds) }
+  base = b;
+  olds = olds;
+  news = merge_news schema options H b olds;
+  marked = carried_places olds (placement H).segments (merge_news schema options H b olds);
+}
 
 -- the first of the segments that is dead
 abbrev pub first_dead : List Segment → List ℕ → Option ℕ
@@ -96,8 +98,8 @@ MergeWrites schema options H b olds None said made =
 abbrev pub MergeEnds : Schema → Options → History → ℕ → List ℕ → Reply → List What → Type 0
 MergeEnds schema options H b olds said made =
     MatchBool (is_full H || nat_lt most_segments (last_segment H + length (merge_pieces schema options H b olds)))
-        (Answers (Refused LogFull) [] said made)
-        (MergeWrites schema options H b olds (first_dead (placement H).segments olds) said made)
+    (Answers (Refused LogFull) [] said made)
+    (MergeWrites schema options H b olds (first_dead (placement H).segments olds) said made)
 
 -- a merge in one statement begins at some length from the floor on
 pub record MergesFrom (schema : Schema) (options : Options) (H : History) (floor : ℕ) (said : Reply) (made : List What) : Type 0 where
@@ -123,10 +125,10 @@ first_unstored segments = option_map (λ s. s.number) (find (λ s. is_in_use s &
 abbrev pub UploadEnds : History → ℕ → Reply → List What → Type 0
 UploadEnds H number said made =
     MatchBool (is_full H)
-        (Answers (Refused LogFull) [] said made)
-        (MatchBool (is_unstored (placement H).segments number)
-            (Answers (Uploaded number) (entry.Upload number ∷ []) said made)
-            (Answers (Late number) [] said made))
+    (Answers (Refused LogFull) [] said made)
+    (MatchBool (is_unstored (placement H).segments number)
+    (Answers (Uploaded number) (entry.Upload number ∷ []) said made)
+    (Answers (Late number) [] said made))
 
 -- the segment was picked at some length from the floor on
 pub record UploadsFrom (H : History) (floor : ℕ) (said : Reply) (made : List What) : Type 0 where
@@ -167,12 +169,12 @@ WorksAs schema options H floor job is_set stmt.Upload said made =
     ⊎ (UploadFaults H said made ⊎ UploadsFrom H floor said made)
 WorksAs schema options H floor job is_set stmt.Evict said made =
     MatchBool (is_full H)
-        (Answers (Refused LogFull) [] said made)
-        (Answers (Evicted (length (droppable (placement H).segments))) (evict_whats (droppable (placement H).segments)) said made)
+    (Answers (Refused LogFull) [] said made)
+    (Answers (Evicted (length (droppable (placement H).segments))) (evict_whats (droppable (placement H).segments)) said made)
 WorksAs schema options H floor job is_set stmt.Vacuum said made =
     MatchBool (is_full H)
-        (Answers (Refused LogFull) [] said made)
-        (Answers (Vacuumed (least_needed H)) (entry.Vacuum (least_needed H) ∷ []) said made)
+    (Answers (Refused LogFull) [] said made)
+    (Answers (Vacuumed (least_needed H)) (entry.Vacuum (least_needed H) ∷ []) said made)
 WorksAs schema options H floor job is_set (stmt.Mark n) said made = Answers Done [] said made
 WorksAs schema options H floor job is_set (stmt.After n) said made =
     (is_set n ≡ true) × (said ≡ Done) × (made ≡ []) ⊎ Answers (Refused NotYet) [] said made
@@ -182,5 +184,5 @@ WorksAs schema options H floor job is_set _ said made = ⊥
 abbrev pub Works : Schema → Options → History → ℕ → ℕ → Option ℕ → (ℕ → Bool) → Stmt → Reply → List What → Type 0
 Works schema options H k floor job is_set statement said made =
     MatchBool (is_some (pin_of H k))
-        (Answers (Refused ReadOnly) [] said made)
-        (WorksAs schema options H floor job is_set statement said made)
+    (Answers (Refused ReadOnly) [] said made)
+    (WorksAs schema options H floor job is_set statement said made)

@@ -110,7 +110,7 @@ fixes fixed places = list_all (λ c. is_some (fixed_at fixed c)) places
 abbrev pub fixed_key : Schema → Pred → Option (ℕ × List Value)
 fixed_key schema pred =
     option_map (λ key. (key.0, map (λ c. unwrap_or (fixed_at (equalities pred) c) (Int (pos 0))) key.1))
-        (find (λ key. fixes (equalities pred) key.1) (enumerate_from 0 (keys_of schema)))
+    (find (λ key. fixes (equalities pred) key.1) (enumerate_from 0 (keys_of schema)))
 
 -- the segment holds a row, marked or not, with the hash of this value of key j
 unfoldable pub holds_hash : Schema → History → Segment → ℕ → List ℕ → List Value → Bool
@@ -154,7 +154,7 @@ abbrev pub needs_for_values : Schema → History → ℕ → Stmt → Segment �
 needs_for_values schema H k stmt s =
     is_alive (length H) s
     && list_any (λ key. list_any (holds_hash schema H s key.0 key.1) (values_given key.1 (view H k) stmt))
-        (enumerate_from 0 schema.uniques)
+    (enumerate_from 0 schema.uniques)
 
 -- the segments that a statement needs; MERGE END has the base of its job
 
@@ -204,7 +204,6 @@ counts_as_evicted whole r k n =
     if is_some (pin_of (upto r whole) k) then is_evicted_in_pin r k whole n else is_evicted (upto r whole) n
 
 -- faults of a statement's own port
-
 
 -- neither ReadOnly nor LogFull comes before a fault of the port
 abbrev pub may_load : History → ℕ → Stmt → Bool

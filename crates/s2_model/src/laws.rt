@@ -1,7 +1,12 @@
 //! Laws on histories.
 ghost use Rattle.s2_model.specs.Laws.{
-    HistoriesArePlaced, PlacedRowsAreRows, RestingRowsAreRows, RowNumbersAreRight,
-    HorizonsArePinned, PhysicalEntriesChangeNoRow, OnlyCommitsChange
+  HistoriesArePlaced,
+  PlacedRowsAreRows,
+  RestingRowsAreRows,
+  RowNumbersAreRight,
+  HorizonsArePinned,
+  PhysicalEntriesChangeNoRow,
+  OnlyCommitsChange,
 };
 
 /// Where each entry fits the history before it, the rows placed at a timestamp from the horizon on are together the content at that timestamp, no row number is placed twice, and each held row that there is has a living version in the row store.

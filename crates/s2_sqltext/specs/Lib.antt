@@ -1,2 +1,5 @@
 pub mod Words
 pub mod FirstForm
+pub mod Values
+pub mod Faults
+pub mod Reading
