@@ -1,15 +1,15 @@
 -- Truth values kept in words of 64 bits.
-use Rattle.std.proofs.Common.{◌≡◌, ◌≢◌, ℕ, zero, suc, ◌+◌, ◌-◌, ◌*◌, ◌/◌, ◌%◌, ◌^◌, ◌<◌, ◌≤◌, Bool, true, false, not, ◌&&◌, ◌||◌, cond, eqb, min, max, List, [], ◌∷◌, ◌++◌, length, get_or, drop, filter, map, count_by, sym, ap, refl, ◌∙◌, subst, arith, rules}
-use Rattle.std.specs.Prelude.{count_ones, slice_index, slice_index_or, bit_and, bit_or}
+use Rattle.std.proofs.Common.{◌≡◌, ◌≢◌, ℕ, zero, suc, ◌+◌, ◌-◌, ◌*◌, ◌/◌, ◌%◌, ◌^◌, ◌<◌, ◌≤◌, Bool, true, false, not, ◌&&◌, ◌||◌, cond, eqb, min, max, List, [], ◌∷◌, ◌++◌, length, get_or, filter, map, count_by, sym, ap, refl, ◌∙◌, arith}
+use Rattle.std.specs.Prelude.{slice_index_or, bit_and, bit_or}
 use Rattle.std.specs.List.{range_with_len, sum_by}
 use Rattle.std.specs.Int.{bit_at, bit_not, trailing_zeros, w64}
 use mir.Val.{bits}
 use lib.Count.{ones, ones_in}
 use Rattle.std.proofs.Common.{take, length-append}
 use Rattle.std.proofs.lemmas.List.Elements.{filter-append}
-use Rattle.std.proofs.lemmas.List.Sums.{sum_by-append, length-filter, sum_by_more}
-use Rattle.std.proofs.lemmas.Nat.{ones_cat, shl-shr, zero_from_ones, shr_split, shr-shr, and_le_l}
-use Rattle.std.proofs.lemmas.Nat.Bits.{bit_at_and, bit_at_or, bit_at_not, bit_at-suc, bit_at_lowest, bit_at-lt, bit_at-trailing_zeros, bit_at_clear_same, bit_at_clear_other, bit_at_set_same, bit_at_set_other, bit_at-zero}
+use Rattle.std.proofs.lemmas.List.Sums.{length-filter, sum_by_more}
+use Rattle.std.proofs.lemmas.Nat.{ones_cat, and_le_l}
+use Rattle.std.proofs.lemmas.Nat.Bits.{bit_at_and, bit_at_or, bit_at_not, bit_at-suc, bit_at_lowest, bit_at-lt, bit_at-trailing_zeros, bit_at_clear_same, bit_at_clear_other, bit_at-zero}
 use Rattle.std.proofs.Math.Nat.{pow-suc}
 use Rattle.s2_bits.specs.Bits.{has_bit, is_set_at, kept_by, Keeps, places_in, places_of}
 use Rattle.std.proofs.Math.Seq.{take-length}

@@ -100,26 +100,32 @@ mod tests {
     use super::*;
     use std::test::Fail;
 
+    fn set_all(bits: &mut Bits, places: &[u32]) {
+        for i in places {
+            if *i < bits.len() {
+                bits.set(*i);
+            }
+        }
+    }
+
     // Places on both sides of a word's end, in a list that ends within a word.
     #[test]
     fn sets_and_counts(rt: HostRuntime) -> Result<(), Fail> {
         let mut bits = Bits::new(rt.alloc(), 130)?;
         let mut others = Bits::new(rt.alloc(), 130)?;
-        assert_eq!(rt; bits.len(), 130);
+        set_all(&mut bits, &[0, 63, 64, 129]);
+        set_all(&mut others, &[63, 65]);
         assert_eq!(rt; others.len(), 130);
-        for i in [0, 63, 64, 129] {
-            bits.set(i);
-        }
-        for i in [63, 65] {
-            others.set(i);
-        }
-        assert!(rt; bits.get(64) && !bits.get(65));
+        assert_eq!(rt; bits.len(), 130);
+        assert!(rt; bits.get(64));
+        assert!(rt; !bits.get(65));
         assert_eq!(rt;
             bits.ones(rt.alloc())?.as_slice(),
             [0, 63, 64, 129].as_slice()
         );
         bits.or(&others);
         assert_eq!(rt; bits.count(), 5);
+        assert_eq!(rt; bits.len(), 130);
         bits.and_not(&others);
         assert_eq!(rt; bits.ones(rt.alloc())?.as_slice(), [0, 64, 129].as_slice());
         Ok(())

@@ -1,4 +1,4 @@
-use Rattle.std.proofs.Common.{◌≡◌, ◌<◌, ◌≤◌, ◌^◌, ℕ, Bool, length, ap, ◌∙◌, sym, arith, get_or, List, count_by, subst}
+use Rattle.std.proofs.Common.{◌≡◌, ap, ◌∙◌, arith, count_by}
 use Rattle.std.proofs.lemmas.List.Sums.{count_by-le-length}
 use Rattle.std.specs.Prelude.{count_ones}
 use Rattle.std.specs.List.{sum_by}

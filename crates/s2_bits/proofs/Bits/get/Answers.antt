@@ -1,4 +1,4 @@
-use Rattle.std.proofs.Common.{◌≡◌, ◌<◌, false, length, ap, ◌∙◌, sym, arith, get_or, List, Bool}
+use Rattle.std.proofs.Common.{false, length, ap, ◌∙◌, sym, arith, get_or, List, Bool}
 use Rattle.s2_bits.specs.Bits.{is_set_at}
 use Rattle.s2_bits.proofs.Lists.{length-kept_by, get_or-kept_by}
 use Rattle.s2_bits.proofs.Bits.get.Goals as goal

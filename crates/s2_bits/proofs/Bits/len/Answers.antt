@@ -1,4 +1,4 @@
-use Rattle.std.proofs.Common.{◌≡◌, length, ap, ◌∙◌, sym}
+use Rattle.std.proofs.Common.{length, ap, ◌∙◌, sym}
 use Rattle.s2_bits.proofs.Lists.{length-kept_by}
 use Rattle.s2_bits.proofs.Bits.len.Goals as goal
 

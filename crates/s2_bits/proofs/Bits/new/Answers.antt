@@ -1,4 +1,4 @@
-use Rattle.std.proofs.Common.{◌≡◌, ◌^◌, rules, ◌<◌, ◌*◌, ◌≤◌, ◌+◌, ℕ, false, length, ap, ◌∙◌, sym, arith, replicate, List, subst}
+use Rattle.std.proofs.Common.{◌≡◌, ◌^◌, rules, ◌<◌, ◌*◌, ◌≤◌, ◌+◌, ℕ, length, ap, ◌∙◌, arith, replicate, List}
 use Rattle.std.proofs.Math.ListN.{length-replicate}
 use Rattle.s2_bits.specs.Bits.{is_set_at, Keeps, kept_by}
 use Rattle.s2_bits.proofs.Lists.{kept_by-replicate, is_set_at-replicate}

@@ -1,4 +1,4 @@
-use Rattle.std.proofs.Common.{◌≡◌, ◌<◌, ◌≤◌, ◌^◌, ◌*◌, ◌++◌, [], ℕ, Bool, length, ap, ◌∙◌, sym, arith, get_or, List, filter}
+use Rattle.std.proofs.Common.{◌*◌, ◌++◌, ℕ, length, ap, ◌∙◌, arith, List, filter}
 use Rattle.std.specs.List.{range_with_len}
 use Rattle.s2_bits.specs.Bits.{places_of, is_set_at}
 use Rattle.s2_bits.proofs.Kept.{places_of_kept}

@@ -1,4 +1,4 @@
-use Rattle.std.proofs.Common.{◌≡◌, ◌<◌, ◌≤◌, ◌*◌, ◌+◌, ℕ, Bool, true, false, not, ◌&&◌, ◌||◌, length, ap, ◌∙◌, sym, arith, get_or, List, take, drop, ◌++◌, refl}
+use Rattle.std.proofs.Common.{◌≡◌, ◌≤◌, ℕ, Bool, false, ◌||◌, length, ap, ◌∙◌, sym, arith, List, take, drop, ◌++◌, refl}
 use Rattle.s2_bits.specs.Bits.{is_set_at, Keeps, kept_by, either_of}
 use Rattle.s2_bits.proofs.Lists.{length-kept_by, kept_by-or, Keeps-changed, Keeps-same_length, refilled}
 use Rattle.s2_bits.proofs.Bits.or.Goals as goal

@@ -1,4 +1,4 @@
-use Rattle.std.proofs.Common.{get_or, arith, ◌≤◌, ◌+◌, ◌≡◌, take}
+use Rattle.std.proofs.Common.{get_or, arith}
 use Rattle.std.proofs.lemmas.Nat.{ones-le}
 use Rattle.std.proofs.lemmas.List.Sums.{sum_by_more}
 use Rattle.std.specs.Prelude.{count_ones}

@@ -1,4 +1,4 @@
-use Rattle.std.proofs.Common.{◌≡◌, ℕ, length, arith}
+use Rattle.std.proofs.Common.{arith}
 use Rattle.s2_bits.proofs.Lists.{is_set_at-or}
 use Rattle.s2_bits.proofs.words.or.Goals as goal
 

@@ -1,4 +1,4 @@
-use Rattle.std.proofs.Common.{◌≡◌, ◌++◌, ◌∷◌, [], arith, ◌∙◌, ap, sym, ◌<◌, ◌≤◌, ◌+◌, List, ℕ, refl}
+use Rattle.std.proofs.Common.{◌≡◌, ◌++◌, ◌∷◌, [], arith, ◌∙◌, ap, sym, List, ℕ}
 use Rattle.std.proofs.lemmas.List.{append_assoc, append-nil}
 use Rattle.s2_bits.specs.Bits.{places_in}
 use Rattle.s2_bits.proofs.Kept.{places_first, rest_less, places_none}

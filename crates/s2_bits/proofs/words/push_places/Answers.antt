@@ -1,4 +1,4 @@
-use Rattle.std.proofs.Common.{◌≡◌, ◌++◌, ap, ◌∙◌, sym, List, ℕ, ◌*◌, filter, get_or}
+use Rattle.std.proofs.Common.{◌++◌, ap, ◌∙◌, sym, List, ℕ, ◌*◌, filter, get_or}
 use Rattle.std.proofs.lemmas.List.{append_assoc}
 use Rattle.std.specs.List.{range_with_len}
 use Rattle.s2_bits.specs.Bits.{is_set_at, places_in}
