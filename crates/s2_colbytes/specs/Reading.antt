@@ -33,3 +33,7 @@ alone x = alone_with x.0 x.1
 -- a test of what was read
 abbrev pub unless : {X : Type 0} → Bool → ColErr → X → Result X ColErr
 unless wrong err x = if wrong then Err err else Ok x
+
+-- what is read, with no byte after it
+abbrev pub to_the_end : {X : Type 0} → Result (X × List ℕ) ColErr → Result X ColErr
+to_the_end read = read >>= alone

@@ -1,7 +1,7 @@
 //! Numbers of a fixed width in bytes, the lowest byte first, and what can be wrong with a column's bytes.
 #![tactic(auto)]
 
-ghost use Rattle.std.specs.Prelude.{◌≡◌, ◌+◌, ◌*◌, ◌≤◌, ◌++◌, length, drop, vec_len, vec_capacity};
+ghost use Rattle.std.specs.Prelude.{◌≡◌, ◌+◌, ◌*◌, ◌≤◌, ◌++◌, IfOk, length, drop, vec_len, vec_capacity};
 ghost use Rattle.byteorder.specs.Endian.{little_number, little_bytes};
 ghost use Rattle.s2_colbytes.specs.Reading.{Gives, front_at, number_at, alone};
 ghost use Rattle.s2_colbytes.specs.Numbers.{signed, int_bytes};
@@ -46,7 +46,8 @@ pub enum ColErr {
 
 /// The first `count` bytes, and those after them.
 pub fn split_front(bytes: &[u8], count: u64) -> Result<(&[u8], &[u8]), ColErr>
-    ensures { Gives (λ x. (x.0.now, x.1.now)) result (front_at count bytes.now) }
+    ensures gives { Gives (λ x. (x.0.now, x.1.now)) result (front_at count bytes.now) }
+    ensures whole { IfOk result (λ x. length x.0.now ≡ count) }
 {
     if (bytes.len() as u64) < count {
         return Err(ColErr::Short);
