@@ -116,6 +116,7 @@ pub fn u64_from(bytes: &[u8], at: usize) -> u64
 pub fn put(out: &mut Vec<u8>, piece: &[u8])
     requires { vec_len out.old + length piece.now ≤ vec_capacity out.old }
     ensures items { out.new.items ≡ out.old.items ++ piece.now }
+    ensures len { vec_len out.new ≡ vec_len out.old + length piece.now }
     ensures room { vec_capacity out.old ≤ vec_capacity out.new }
 {
     let done = out.extend_from_slice(piece);
@@ -126,6 +127,7 @@ pub fn put(out: &mut Vec<u8>, piece: &[u8])
 pub fn put_u16(out: &mut Vec<u8>, number: u16)
     requires { vec_len out.old + 2 ≤ vec_capacity out.old }
     ensures items { out.new.items ≡ out.old.items ++ little_bytes 2 number }
+    ensures len { vec_len out.new ≡ vec_len out.old + 2 }
     ensures room { vec_capacity out.old ≤ vec_capacity out.new }
 {
     let mut bytes = [0; 2];
@@ -137,6 +139,7 @@ pub fn put_u16(out: &mut Vec<u8>, number: u16)
 pub fn put_u32(out: &mut Vec<u8>, number: u32)
     requires { vec_len out.old + 4 ≤ vec_capacity out.old }
     ensures items { out.new.items ≡ out.old.items ++ little_bytes 4 number }
+    ensures len { vec_len out.new ≡ vec_len out.old + 4 }
     ensures room { vec_capacity out.old ≤ vec_capacity out.new }
 {
     let mut bytes = [0; 4];
@@ -148,6 +151,7 @@ pub fn put_u32(out: &mut Vec<u8>, number: u32)
 pub fn put_i64(out: &mut Vec<u8>, number: i64)
     requires { vec_len out.old + 8 ≤ vec_capacity out.old }
     ensures items { out.new.items ≡ out.old.items ++ int_bytes number }
+    ensures len { vec_len out.new ≡ vec_len out.old + 8 }
     ensures room { vec_capacity out.old ≤ vec_capacity out.new }
 {
     let mut bytes = [0; 8];

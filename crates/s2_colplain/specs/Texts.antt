@@ -6,6 +6,8 @@ use Rattle.s2_colbytes.specs.declared.ColErr.{ColErr}
 use Rattle.s2_colbytes.specs.declared.ColErr.TheVariants.{BadLength, NotText}
 use Rattle.s2_colbytes.specs.Reading.{◌>>=◌, front_at, unless}
 use Rattle.s2_colbytes.specs.Numbers.{numbers, spelled}
+use Rattle.s2_value.specs.declared.values.Value.{Value}
+use Rattle.s2_value.specs.declared.values.Value.TheVariants.{Int, Text}
 use Rattle.s2_value.specs.Text.{is_text_bytes}
 
 -- where each text ends, the first beginning at start
@@ -59,3 +61,8 @@ pub record AreTexts (n : ℕ) (ends bytes : List ℕ) : Type 0 where
 abbrev pub start_at : ℕ → List ℕ → ℕ
 start_at zero ends = 0
 start_at (suc i) ends = little_number 4 (drop (4 * i) ends)
+
+-- a text's bytes; a number has none
+abbrev pub text_of : Value → List ℕ
+text_of (Int x) = []
+text_of (Text t) = t

@@ -1,9 +1,11 @@
 //! Plain numbers: eight bytes each.
-ghost use Rattle.std.specs.Prelude.{◌≡◌, ◌<◌, length, pos, slice_index_or};
+ghost use Rattle.std.specs.Prelude.{◌≡◌, ◌+◌, ◌*◌, ◌<◌, ◌≤◌, ◌++◌, length, pos, slice_index_or, vec_len, vec_capacity, OnOk, OnErr};
 ghost use Rattle.s2_colbytes.specs.Reading.{Gives, to_the_end};
-ghost use Rattle.s2_colplain.specs.Ints.{ints_at};
+ghost use Rattle.s2_colbytes.specs.Numbers.{int_bytes};
+ghost use Rattle.s2_colplain.specs.Ints.{ints_at, plain_ints};
 
-use s2_colbytes::{ColErr, end, i64_at, split_front};
+use s2_colbytes::{ColErr, end, i64_at, put_i64, split_front};
+use s2_value::Memory;
 use std::marker::Model;
 
 /// Plain numbers, read in place. In contracts it is the list of the numbers.
@@ -15,7 +17,8 @@ pub struct PlainInt<'a> {
 
 impl<'a> Model for PlainInt<'a> {
     ghost use Rattle.std.specs.Prelude.{◌≡◌, ◌*◌, List, ℤ, length};
-    ghost use Rattle.s2_colplain.specs.Ints.{ints_in};
+    ghost use Rattle.s2_colbytes.specs.Numbers.{int_bytes};
+ghost use Rattle.s2_colplain.specs.Ints.{ints_in};
 
     ghost Value = { List ℤ };
 
@@ -56,4 +59,35 @@ impl<'a> PlainInt<'a> {
     {
         i64_at(self.bytes, i as usize)
     }
+}
+
+// Puts the number at the end, for which there is room.
+fn put_int(val: &i64, out: &mut Vec<u8>)
+    requires { vec_len out.old + 8 ≤ vec_capacity out.old }
+    ensures items { out.new.items ≡ out.old.items ++ int_bytes val.now }
+    ensures len { vec_len out.new ≡ vec_len out.old + 8 }
+    ensures room { vec_capacity out.old ≤ vec_capacity out.new }
+{
+    let number = *val;
+    put_i64(out, number);
+}
+
+// Puts the numbers at the end, for which there is room.
+fn put_ints(vals: &[i64], out: &mut Vec<u8>)
+    requires { vec_len out.old + 8 * length vals.now ≤ vec_capacity out.old }
+    ensures { out.new.items ≡ out.old.items ++ plain_ints vals.now }
+{
+    for val in vals {
+        put_int(val, out);
+    }
+}
+
+/// Puts the numbers at the end of `out`. Want of memory leaves `out` as it was.
+pub fn write_plain_int(vals: &[i64], out: &mut Vec<u8>) -> Result<(), Memory>
+    ensures ok { OnOk result (out.new.items ≡ out.old.items ++ plain_ints vals.now) }
+    ensures err { OnErr result (out.new.items ≡ out.old.items) }
+{
+    out.reserve(8 * vals.len())?;
+    put_ints(vals, out);
+    Ok(())
 }

@@ -5,6 +5,6 @@ mod ints;
 mod packing;
 mod texts;
 
-pub use ints::PlainInt;
+pub use ints::{PlainInt, write_plain_int};
 pub use packing::Packed;
-pub use texts::PlainText;
+pub use texts::{HasText, PlainText, write_plain_text};

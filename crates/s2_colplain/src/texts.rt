@@ -1,14 +1,45 @@
 //! Plain texts: where each ends, then the bytes of all.
-ghost use Rattle.std.specs.Prelude.{◌≡◌, ◌+◌, ◌*◌, ◌<◌, ◌≤◌, ◌-◌, true, [], length, take, drop, slice_index_or};
+ghost use Rattle.std.specs.Prelude.{◌≡◌, ℕ, List, ◌+◌, ◌*◌, ◌<◌, ◌≤◌, ◌-◌, ◌++◌, true, [], length, take, drop, map, slice_index_or, vec_len, vec_capacity, OnOk, OnErr};
+ghost use Rattle.std.specs.List.{sum_by, concat};
 ghost use Rattle.s2_colbytes.specs.Reading.{Gives, to_the_end};
-ghost use Rattle.s2_colbytes.specs.Numbers.{numbers};
+ghost use Rattle.s2_colbytes.specs.Numbers.{numbers, spelled};
 ghost use Rattle.s2_value.specs.Text.{is_txt};
-ghost use Rattle.s2_colplain.specs.Texts.{texts_at, are_ends, last_end, cut_at, are_texts, start_at};
+ghost use Rattle.s2_colplain.specs.Texts.{texts_at, are_ends, last_end, cut_at, are_texts, start_at, ends_from, plain_texts, text_of};
 ghost use Rattle.byteorder.specs.Endian.{little_number};
 
-use s2_colbytes::{ColErr, end, split_front, u32_at};
-use s2_value::are_text_bytes;
+use s2_colbytes::{ColErr, end, put, put_u32, split_front, u32_at};
+use s2_value::{Memory, Txt, Value, are_text_bytes};
 use std::marker::Model;
+
+/// What has a text.
+pub trait HasText {
+    ghost text: { Self → List ℕ };
+
+    /// The bytes of the text, at most 255.
+    fn text_bytes(&self) -> &[u8]
+        ensures bytes { result.now ≡ text self.now }
+        ensures valid { is_txt (text self.now) ≡ true };
+}
+
+impl HasText for Txt {
+    ghost text = { λ t. t };
+
+    fn text_bytes(&self) -> &[u8] {
+        self.bytes()
+    }
+}
+
+// A number has the empty text.
+impl HasText for Value {
+    ghost text = { text_of };
+
+    fn text_bytes(&self) -> &[u8] {
+        match self {
+            Value::Int(_) => &[],
+            Value::Text(text) => text.bytes(),
+        }
+    }
+}
 
 /// Plain texts, read in place. In contracts it is the list of the texts, each the list of its bytes.
 #[derive(Debug, Drop)]
@@ -161,4 +192,54 @@ impl<'a> PlainText<'a> {
         let end = u32_at(self.ends, i as usize) as usize;
         part(self.bytes, start, end)
     }
+}
+
+// How many bytes the texts have together.
+fn total_len<T: HasText>(vals: &[T]) -> usize
+    requires { length vals.now ≤ 8192 }
+    ensures value { result ≡ sum_by (λ v. length (T.text v)) vals.now }
+    ensures small { result ≤ 255 * 8192 }
+{
+    let mut total = 0;
+    for val in vals {
+        total += val.text_bytes().len();
+    }
+    total
+}
+
+// Puts where each text ends, for which there is room.
+fn put_ends<T: HasText>(vals: &[T], out: &mut Vec<u8>)
+    requires few { length vals.now ≤ 8192 }
+    requires room { vec_len out.old + 4 * length vals.now ≤ vec_capacity out.old }
+    ensures items { out.new.items ≡ out.old.items ++ spelled 4 (ends_from 0 (map T.text vals.now)) }
+    ensures len { vec_len out.new ≡ vec_len out.old + 4 * length vals.now }
+    ensures capacity { vec_capacity out.old ≤ vec_capacity out.new }
+{
+    let mut end = 0u32;
+    for val in vals {
+        end += val.text_bytes().len() as u32;
+        put_u32(out, end);
+    }
+}
+
+// Puts the bytes of the texts, for which there is room.
+fn put_texts<T: HasText>(vals: &[T], out: &mut Vec<u8>)
+    requires { vec_len out.old + sum_by (λ v. length (T.text v)) vals.now ≤ vec_capacity out.old }
+    ensures { out.new.items ≡ out.old.items ++ concat (map T.text vals.now) }
+{
+    for val in vals {
+        put(out, val.text_bytes());
+    }
+}
+
+/// Puts the texts at the end of `out`, at most 8,192 of them. Want of memory leaves `out` as it was.
+pub fn write_plain_text<T: HasText>(vals: &[T], out: &mut Vec<u8>) -> Result<(), Memory>
+    requires { length vals.now ≤ 8192 }
+    ensures ok { OnOk result (out.new.items ≡ out.old.items ++ plain_texts (map T.text vals.now)) }
+    ensures err { OnErr result (out.new.items ≡ out.old.items) }
+{
+    out.reserve(4 * vals.len() + total_len(vals))?;
+    put_ends(vals, out);
+    put_texts(vals, out);
+    Ok(())
 }
