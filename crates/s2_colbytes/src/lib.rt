@@ -158,3 +158,26 @@ pub fn put_i64(out: &mut Vec<u8>, number: i64)
     LittleEndian::write_i64(&mut bytes, number);
     put(out, &bytes);
 }
+
+#[cfg(test)]
+mod tests {
+    use super::*;
+    use std::test::Fail;
+
+    #[test]
+    fn numbers_are_written_and_read(rt: HostRuntime) -> Result<(), Fail> {
+        let mut out = Vec::with_capacity(rt.alloc(), 16)?;
+        assert!(rt; out.len() + 16 <= out.capacity());
+        put_u32(&mut out, 0x0403_0201);
+        put_i64(&mut out, -2);
+        put_u16(&mut out, 0x0201);
+        assert_eq!(rt; out.as_slice(), [1, 2, 3, 4, 254, 255, 255, 255, 255, 255, 255, 255, 1, 2].as_slice());
+        let (number, rest) = split_u32(&out).ok().ok_or("short")?;
+        assert_eq!(rt; (number, rest.len()), (0x0403_0201, 10));
+        assert!(rt; split_u32(&out[..3]).is_err());
+        assert!(rt; split_front(&out, 15).is_err());
+        assert_eq!(rt; end(7u8, &out[..1]).err(), Some(ColErr::Trailing));
+        assert_eq!(rt; end(7u8, &out[..0]).ok(), Some(7));
+        Ok(())
+    }
+}

@@ -88,12 +88,12 @@ pub record Left (start e n k : ℕ) (bs later : List ℕ) : Type 0 where
 
 pub left_is : (start e n k : ℕ) (bs later : List ℕ) → k < n → length bs ≡ 4 * (n - k) → e ≡ little_number 4 bs → later ≡ drop 4 bs → Left start e n k bs later
 left_is start e n k bs later l w p q = record {
-    whole = ap length q ∙ (let d = length-drop 4 bs in omega arith);
-    next = numbers_next n k bs l ∙ cons_is (sym p) (ap (numbers 4 (n - (k + 1))) (sym q))
-  }
+  whole = ap length q ∙ (let d = length-drop 4 bs in omega arith);
+  next = numbers_next n k bs l ∙ cons_is (sym p) (ap (numbers 4 (n - (k + 1))) (sym q));
+}
   where
-  cons_is : {a b : ℕ} {xs ys : List ℕ} → a ≡ b → xs ≡ ys → a ∷ xs ≡ b ∷ ys
-  cons_is p q = cc
+    cons_is : {a b : ℕ} {xs ys : List ℕ} → a ≡ b → xs ≡ ys → a ∷ xs ≡ b ∷ ys
+    cons_is p q = cc
 
 -- a text and the bytes after it
 pub record Cuts (start e : ℕ) (es left : List ℕ) : Type 0 where

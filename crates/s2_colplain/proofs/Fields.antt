@@ -18,24 +18,24 @@ use Rattle.s2_colplain.specs.Packed.{field, unpacked_from, is_over}
 -- the low bits of the number that bytes are stand in their first bytes
 pub number_of-low : (bs : List ℕ) (k j : ℕ) → j ≤ 8 * k → number_of bs % 2 ^ j ≡ number_of (take k bs) % 2 ^ j
 number_of-low bs k j l = elim (cases_lt (length bs) k) [
-    inl short ↦ ap (λ (xs : List ℕ). number_of xs % 2 ^ j) (sym (take_all k bs (omega arith)))
+  | inl short ↦ ap (λ (xs : List ℕ). number_of xs % 2 ^ j) (sym (take_all k bs (omega arith)))
   | inr long ↦
       (let e : 256 ^ k ≡ 2 ^ (8 * k - j) * 2 ^ j = pow256 k ∙ ap (λ (n : ℕ). 2 ^ n) (let f : 8 * k ≡ (8 * k - j) + j = omega arith in f) ∙ pow-add 2 (8 * k - j) j in
-       let high : ℕ = number_of (drop k bs) in
-       let low : ℕ = number_of (take k bs) in
-       let split : number_of bs ≡ high * 2 ^ (8 * k - j) * 2 ^ j + low = number_of-split k bs long ∙ ap (λ (n : ℕ). low + n * high) e ∙ swapped low (2 ^ (8 * k - j)) (2 ^ j) high in
-       ap (λ (n : ℕ). n % 2 ^ j) split ∙ mul-add-mod_self_right (high * 2 ^ (8 * k - j)) (2 ^ j) low)
-  ]
+      let high : ℕ = number_of (drop k bs) in
+      let low : ℕ = number_of (take k bs) in
+      let split : number_of bs ≡ high * 2 ^ (8 * k - j) * 2 ^ j + low = number_of-split k bs long ∙ ap (λ (n : ℕ). low + n * high) e ∙ swapped low (2 ^ (8 * k - j)) (2 ^ j) high in
+      ap (λ (n : ℕ). n % 2 ^ j) split ∙ mul-add-mod_self_right (high * 2 ^ (8 * k - j)) (2 ^ j) low)
+]
   where
-  swapped : (a p q h : ℕ) → a + p * q * h ≡ h * p * q + a
-  swapped a p q h = omega arith
+    swapped : (a p q h : ℕ) → a + p * q * h ≡ h * p * q + a
+    swapped a p q h = omega arith
 
 -- a field stands in the nine bytes from the one that it begins in
 pub field_in : (bs : List ℕ) (at s w i : ℕ) → IsBytes bs → w * i ≡ 8 * at + s → w + s ≤ 72 → field w i (number_of bs) ≡ number_of (take 9 (drop at bs)) / 2 ^ s % 2 ^ w
 unfolding field
 field_in bs at s w i h e l =
     let place : number_of bs / 2 ^ (w * i) ≡ number_of (drop at bs) / 2 ^ s =
-      ap (λ (n : ℕ). number_of bs / 2 ^ n) e ∙ sym (shr-shr (number_of bs) (8 * at) s) ∙ ap (λ (n : ℕ). number_of bs / n / 2 ^ s) (sym (pow256 at)) ∙ ap (λ (n : ℕ). n / 2 ^ s) (sym (number_of-drop at bs h)) in
+    ap (λ (n : ℕ). number_of bs / 2 ^ n) e ∙ sym (shr-shr (number_of bs) (8 * at) s) ∙ ap (λ (n : ℕ). number_of bs / n / 2 ^ s) (sym (pow256 at)) ∙ ap (λ (n : ℕ). n / 2 ^ s) (sym (number_of-drop at bs h)) in
     ap (λ (n : ℕ). n % 2 ^ w) place ∙ sym (field_of (number_of (drop at bs)) w s)
     ∙ ap (λ (n : ℕ). n / 2 ^ s) (number_of-low (drop at bs) 9 (w + s) l)
     ∙ field_of (number_of (take 9 (drop at bs))) w s

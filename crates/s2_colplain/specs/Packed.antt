@@ -1,7 +1,7 @@
 -- Packed numbers: a base, a width, and for each number its distance from the base in as many bits.
-use Rattle.std.specs.Prelude.{◌≡◌, ℕ, zero, suc, ◌+◌, ◌-◌, ◌*◌, ◌/◌, ◌%◌, ◌^◌, ℤ, pos, ◌+ℤ◌, int_lt, FitsSigned, ◌≤◌, Bool, false, List, [], ◌∷◌, ◌++◌, length, map, nat_lt, slice_index, Result, Ok, Err}
+use Rattle.std.specs.Prelude.{◌≡◌, ℕ, zero, suc, ◌+◌, ◌-◌, ◌*◌, ◌/◌, ◌%◌, ◌^◌, ℤ, pos, ◌+ℤ◌, int_lt, FitsSigned, ◌≤◌, ◌-ℤ◌, unsigned_abs, min, max, Bool, false, List, [], ◌∷◌, ◌++◌, length, map, nat_lt, slice_index, Result, Ok, Err}
 use Rattle.std.specs.List.{range_with_len, list_any}
-use Rattle.std.specs.Int.{w64}
+use Rattle.std.specs.Int.{w64, leading_zeros}
 use Rattle.byteorder.specs.Endian.{little_number}
 use Rattle.s2_colbytes.specs.declared.ColErr.{ColErr}
 use Rattle.s2_colbytes.specs.declared.ColErr.TheVariants.{BadWidth, Overflow}
@@ -49,3 +49,45 @@ pub record IsPacked (base : ℤ) (width n : ℕ) (bytes : List ℕ) : Type 0 whe
   pub narrow : width ≤ 63
   pub whole : n * width ≤ 8 * length bytes
   pub fits : list_any is_over (unpacked base width n bytes) ≡ false
+
+-- how far a number is above the least one, -2^63
+abbrev pub rank : ℤ → ℕ
+rank x = unsigned_abs (x +ℤ pos 9223372036854775808)
+
+-- the number of a rank
+abbrev pub of_rank : ℕ → ℤ
+of_rank r = pos r -ℤ pos 9223372036854775808
+
+-- the least and the greatest rank of the numbers
+abbrev pub least_rank : List ℤ → ℕ
+least_rank [] = 18446744073709551615
+least_rank (x ∷ xs) = min (rank x) (least_rank xs)
+
+abbrev pub greatest_rank : List ℤ → ℕ
+greatest_rank [] = 0
+greatest_rank (x ∷ xs) = max (rank x) (greatest_rank xs)
+
+-- how many binary digits a number below 2^64 has, none for 0
+abbrev pub digits : ℕ → ℕ
+digits n = 64 - leading_zeros w64 n
+
+-- the greatest number less the least one
+abbrev pub spread : List ℤ → ℕ
+spread xs = greatest_rank xs - least_rank xs
+
+-- fields of w bits as one number, the first lowest
+abbrev pub pack : ℕ → List ℕ → ℕ
+pack w [] = 0
+pack w (f ∷ fs) = f + 2 ^ w * pack w fs
+
+-- the distances from a base
+abbrev pub distances : ℕ → List ℤ → List ℕ
+distances base xs = map (λ x. rank x - base) xs
+
+-- the fields' bytes, with unused bits 0
+abbrev pub field_bytes : ℕ → ℕ → List ℤ → List ℕ
+field_bytes base w xs = bytes_of (packed_len w (length xs)) (pack w (distances base xs))
+
+-- the body: the least number as base, as many bits as the spread has digits
+abbrev pub packed_ints : List ℤ → List ℕ
+packed_ints xs = int_bytes (of_rank (least_rank xs)) ++ digits (spread xs) ∷ field_bytes (least_rank xs) (digits (spread xs)) xs

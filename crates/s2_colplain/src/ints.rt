@@ -18,7 +18,7 @@ pub struct PlainInt<'a> {
 impl<'a> Model for PlainInt<'a> {
     ghost use Rattle.std.specs.Prelude.{◌≡◌, ◌*◌, List, ℤ, length};
     ghost use Rattle.s2_colbytes.specs.Numbers.{int_bytes};
-ghost use Rattle.s2_colplain.specs.Ints.{ints_in};
+    ghost use Rattle.s2_colplain.specs.Ints.{ints_in};
 
     ghost Value = { List ℤ };
 
@@ -51,6 +51,13 @@ impl<'a> PlainInt<'a> {
         end(column, rest)
     }
 
+    /// How many numbers there are.
+    pub fn len(&self) -> u32
+        ensures { result ≡ length self.now }
+    {
+        self.count
+    }
+
     /// Number `i`, from 0. It takes constant time.
     #[inline]
     pub fn at(&self, i: u32) -> i64
@@ -62,7 +69,7 @@ impl<'a> PlainInt<'a> {
 }
 
 // Puts the number at the end, for which there is room.
-fn put_int(val: &i64, out: &mut Vec<u8>)
+pub fn put_int(val: &i64, out: &mut Vec<u8>)
     requires { vec_len out.old + 8 ≤ vec_capacity out.old }
     ensures items { out.new.items ≡ out.old.items ++ int_bytes val.now }
     ensures len { vec_len out.new ≡ vec_len out.old + 8 }

@@ -139,6 +139,13 @@ impl<'a> Packed<'a> {
         end(column, rest)
     }
 
+    /// How many numbers there are.
+    pub fn len(&self) -> u32
+        ensures { result ≡ length self.now }
+    {
+        self.count
+    }
+
     /// Number `i`, from 0. It takes constant time.
     #[inline]
     pub fn at(&self, i: u32) -> i64

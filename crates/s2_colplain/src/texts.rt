@@ -181,6 +181,13 @@ impl<'a> PlainText<'a> {
         end(column, rest)
     }
 
+    /// How many texts there are.
+    pub fn len(&self) -> u32
+        ensures { result ≡ length self.now }
+    {
+        self.count
+    }
+
     /// The bytes of text `i`, from 0. It takes constant time.
     #[inline]
     pub fn at(&self, i: u32) -> &'a [u8]

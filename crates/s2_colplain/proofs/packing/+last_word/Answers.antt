@@ -8,5 +8,5 @@ pub returns-in-len1-up-clause-small : goal.returns-in-len1-up-clause-small
 returns-in-len1-up-clause-small t c =
     let bytes = c.args.bytes.now in
     few_bytes c.from.result (take (length bytes - 1) (drop 1 bytes)) c.last_word.result
-      (IsBytes-take (length bytes - 1) (drop 1 bytes) (IsBytes-drop 1 bytes (λ i. omega (arith, c.type_inv.bytes i))))
-      (omega (arith, length-drop 1 bytes, length-take-le (length bytes - 1) (drop 1 bytes) (omega (arith, length-drop 1 bytes)))) c.last_word.ensures.value (omega (arith, c.type_inv.bytes 0, c.from.ensures))
+    (IsBytes-take (length bytes - 1) (drop 1 bytes) (IsBytes-drop 1 bytes (λ i. omega (arith, c.type_inv.bytes i))))
+    (omega (arith, length-drop 1 bytes, length-take-le (length bytes - 1) (drop 1 bytes) (omega (arith, length-drop 1 bytes)))) c.last_word.ensures.value (omega (arith, c.type_inv.bytes 0, c.from.ensures))

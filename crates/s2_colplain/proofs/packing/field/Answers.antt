@@ -17,5 +17,5 @@ returns-clause-value c =
     let bit : c.from.result * c.from-2.result ≡ c.args.width * c.args.i = product c.from.ensures c.from-2.ensures in
     taken c.args.bytes.now c.args.width c.args.i (c.from.result * c.from-2.result) c.word_from.result _ (λ k. omega (arith, c.type_inv.bytes k)) c.requires.narrow bit c.word_from.ensures refl
   where
-  product : {a b x y : ℕ} → a ≡ x → b ≡ y → a * b ≡ x * y
-  product p q = cc
+    product : {a b x y : ℕ} → a ≡ x → b ≡ y → a * b ≡ x * y
+    product p q = cc

@@ -23,7 +23,7 @@ found : (base : ℤ) (w i f n bits : ℕ) → FitsSigned w64 base → f ≡ fiel
 found base w i f n bits p e h l =
     let z : 0 + i ≡ i = omega arith in
     let here : is_over (get_or (unpacked_from base w bits 0 n) i (pos 0)) ≡ true =
-      ap is_over (get_or-unpacked base w bits 0 n i (pos 0) l ∙ ap (λ (k : ℕ). base +ℤ pos (field w k bits)) z ∙ ap (λ (k : ℕ). base +ℤ pos k) (sym e) ∙ ap (λ (b : ℤ). b +ℤ pos f) (sym (base_same base p))) ∙ sym h in
+    ap is_over (get_or-unpacked base w bits 0 n i (pos 0) l ∙ ap (λ (k : ℕ). base +ℤ pos (field w k bits)) z ∙ ap (λ (k : ℕ). base +ℤ pos k) (sym e) ∙ ap (λ (b : ℤ). b +ℤ pos f) (sym (base_same base p))) ∙ sym h in
     sym (list_any_at is_over (unpacked_from base w bits 0 n) i (pos 0) (omega (arith, length-unpacked base w bits 0 n)) here)
 
 pub returns-then-is_over : goal.returns-then-is_over

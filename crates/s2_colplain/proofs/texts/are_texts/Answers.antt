@@ -42,5 +42,5 @@ loop-preserved c =
       rising = s.cuts.rising;
       last = s.cuts.last ∙ ap (λ (xs : List ℕ). e + length xs) (sym c.split_at.ensures.back);
       all = ap (λ (xs : List ℕ). are_texts (cut_at e (numbers 4 (c.args.count - (c.loop.counter + 1)) later) xs)) c.split_at.ensures.back
-        ∙ sym (sym c.loop.invariant.all ∙ texts_next c.loop.start e (numbers 4 (c.args.count - c.loop.counter) c.loop.rest.now) (numbers 4 (c.args.count - (c.loop.counter + 1)) later) c.loop.left.now s.ends.next ∙ rw good refl);
+          ∙ sym (sym c.loop.invariant.all ∙ texts_next c.loop.start e (numbers 4 (c.args.count - c.loop.counter) c.loop.rest.now) (numbers 4 (c.args.count - (c.loop.counter + 1)) later) c.loop.left.now s.ends.next ∙ rw good refl);
     }
