@@ -29,9 +29,9 @@ low_first (suc k) j x =
     let first : byte_at j x ≡ x / 256 ^ j % 256 = at j x in
     rw (first, low_first k (suc j) x, next) refl
   where
-  at : (j x : ℕ) → byte_at j x ≡ x / 256 ^ j % 256
-  at zero x = ap (λ (y : ℕ). y % 256) (sym (div-one x))
-  at (suc j) x = refl
+    at : (j x : ℕ) → byte_at j x ≡ x / 256 ^ j % 256
+    at zero x = ap (λ (y : ℕ). y % 256) (sym (div-one x))
+    at (suc j) x = refl
 
 pub little_bytes-is : (n x : ℕ) → little_bytes n x ≡ bytes_of n x
 little_bytes-is n x = low_first n 0 x ∙ ap (bytes_of n) (div-one x)

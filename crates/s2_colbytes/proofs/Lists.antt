@@ -44,8 +44,8 @@ numbers-spelled w (x ∷ xs) rest h =
     let after : drop w (little_bytes w x ++ (spelled w xs ++ rest)) ≡ spelled w xs ++ rest = ap (λ (k : ℕ). drop k (little_bytes w x ++ (spelled w xs ++ rest))) (sym len) ∙ drop-append_seam (little_bytes w x) (spelled w xs ++ rest) in
     ap (numbers w (suc (length xs))) e ∙ cons_is first (ap (numbers w (length xs)) after ∙ numbers-spelled w xs rest h.1)
   where
-  cons_is : {a b : ℕ} {xs ys : List ℕ} → a ≡ b → xs ≡ ys → a ∷ xs ≡ b ∷ ys
-  cons_is p q = cc
+    cons_is : {a b : ℕ} {xs ys : List ℕ} → a ≡ b → xs ≡ ys → a ∷ xs ≡ b ∷ ys
+    cons_is p q = cc
 
 -- the bytes after the numbers
 pub drop-spelled : (w : ℕ) (xs rest : List ℕ) → drop (w * length xs) (spelled w xs ++ rest) ≡ rest

@@ -26,9 +26,9 @@ number_at w bytes = if nat_lt (length bytes) w then Err Short else Ok (little_nu
 abbrev pub alone : {X : Type 0} → X × List ℕ → Result X ColErr
 alone x = alone_with x.0 x.1
   where
-  alone_with : {X : Type 0} → X → List ℕ → Result X ColErr
-  alone_with x [] = Ok x
-  alone_with x (b ∷ bs) = Err Trailing
+    alone_with : {X : Type 0} → X → List ℕ → Result X ColErr
+    alone_with x [] = Ok x
+    alone_with x (b ∷ bs) = Err Trailing
 
 -- a test of what was read
 abbrev pub unless : {X : Type 0} → Bool → ColErr → X → Result X ColErr

@@ -171,7 +171,10 @@ mod tests {
         put_u32(&mut out, 0x0403_0201);
         put_i64(&mut out, -2);
         put_u16(&mut out, 0x0201);
-        assert_eq!(rt; out.as_slice(), [1, 2, 3, 4, 254, 255, 255, 255, 255, 255, 255, 255, 1, 2].as_slice());
+        assert_eq!(rt;
+            out.as_slice(),
+            [1, 2, 3, 4, 254, 255, 255, 255, 255, 255, 255, 255, 1, 2].as_slice()
+        );
         let (number, rest) = split_u32(&out).ok().ok_or("short")?;
         assert_eq!(rt; (number, rest.len()), (0x0403_0201, 10));
         assert!(rt; split_u32(&out[..3]).is_err());
