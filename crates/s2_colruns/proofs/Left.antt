@@ -16,8 +16,8 @@ numbers_next n i x bs l e =
     let after : drop 2 (drop (2 * i) bs) ≡ drop (2 * (i + 1)) bs = drop-drop (2 * i) 2 bs ∙ ap (λ (k : ℕ). drop k bs) p in
     ap (λ (k : ℕ). numbers 2 k (drop (2 * i) bs)) m ∙ cons_is (sym e) (ap (numbers 2 (n - (i + 1))) after)
   where
-  cons_is : {a b : ℕ} {xs ys : List ℕ} → a ≡ b → xs ≡ ys → a ∷ xs ≡ b ∷ ys
-  cons_is p q = cc
+    cons_is : {a b : ℕ} {xs ys : List ℕ} → a ≡ b → xs ≡ ys → a ∷ xs ≡ b ∷ ys
+    cons_is p q = cc
 
 pub numbers_none : (n i : ℕ) (bs : List ℕ) → n ≤ i → numbers 2 (n - i) (drop (2 * i) bs) ≡ []
 numbers_none n i bs l = ap (λ (k : ℕ). numbers 2 k (drop (2 * i) bs)) (let e : n - i ≡ 0 = omega arith in e)
