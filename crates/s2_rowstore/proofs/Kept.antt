@@ -1,6 +1,6 @@
 -- What the steps of a row keep of its keys and of its open write.
-use Rattle.std.proofs.Common.{◌≡◌, ◌∙◌, refl, sym, ap, subst, ℕ, ◌<◌, zero, suc, Bool, true, false, cond, ◌||◌, ◌==◌, not, List, [], ◌∷◌, ◌++◌, Option, None, Some, is_some, is_none, if◌then◌else◌, slice_set, slice_index_or, length, arith}
-use Rattle.std.specs.List.{list_any, filter}
+use Rattle.std.proofs.Common.{◌≡◌, ◌∙◌, refl, sym, ap, ℕ, ◌<◌, zero, suc, Bool, true, false, cond, ◌||◌, ◌==◌, not, List, [], ◌∷◌, ◌++◌, Option, None, Some, is_some, if◌then◌else◌, slice_set, slice_index_or, length, arith}
+use Rattle.std.specs.List.{list_any}
 use Rattle.std.proofs.Math.ListN.{length-set}
 use Rattle.std.specs.BTreeMap.{BTreeMap}
 use Rattle.std.specs.BTreeSet.{BTreeSet}
@@ -10,7 +10,7 @@ use Rattle.s2_value.specs.declared.values.Value.{Value}
 use Rattle.s2_value.specs.declared.schemas.Schema.{Schema}
 use Rattle.s2_rowstore.specs.declared.chain.Version.{Version}
 use Rattle.s2_rowstore.specs.declared.chain.Slot.{Slot}
-use Rattle.s2_rowstore.specs.Chains.{Line, Body, own, slot_after, chain_after, ended, end_version, begun, is_living, is_done, kept}
+use Rattle.s2_rowstore.specs.Chains.{Line, Body, own, slot_after, chain_after, ended, begun, is_living, is_done, kept}
 use Rattle.s2_rowstore.specs.Lines.{body_at, names_row, committed, undone}
 use Rattle.s2_rowstore.specs.Keys.{row_has, slot_has, body_has, ids_of}
 use Rattle.s2_rowstore.specs.Store.{IsPosted, IsListed, places_of}
@@ -73,6 +73,7 @@ has_committed places q k t (vs, None) = refl
 has_committed places q k t (vs, Some s) = go (s.holder == k) where
   H : Version → Bool
   H v = row_has places q v.row
+
   go : (b : Bool) → body_has places q (chain_after t (if b then Some s.change else None) vs, (if is_some (if b then Some s.change else None) then None else Some s)) ≡ body_has places q (vs, Some s)
   go true = or_false (list_any (λ v. row_has places q v.row) (ended t vs ++ begun t s.change)) ∙ list_any-append (λ v. row_has places q v.row) (ended t vs) (begun t s.change)
       ∙ ap (λ a. a || list_any (λ v. row_has places q v.row) (begun t s.change)) (any_ended places q t vs)
@@ -125,6 +126,7 @@ pub still_listed : (changed : List (BTreeSet ℕ)) (k : ℕ) (s : BTreeSet ℕ) 
 still_listed changed k s old new over listed j n small e = go (own k (body_at old n).1) refl where
   slot : Option Slot
   slot = (body_at old n).1
+
   go : (o : Option (Option (List Value))) → own k (body_at old n).1 ≡ o → names_row (ids_of (slice_set changed k s) j) n ≡ true
   go (Some c) is = absurd (false≢true (sym (ap (λ (o : Option Slot). is_some (own j o)) (over n ∙ ap (λ o. if is_some o then None else (body_at old n).1) is)) ∙ e))
   go None is =

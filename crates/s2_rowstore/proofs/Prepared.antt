@@ -1,9 +1,9 @@
 -- What is ready stays ready, and what a list of ready rows says of each row.
-use Rattle.std.proofs.Common.{◌≡◌, ◌∙◌, refl, sym, ap, subst, ℕ, ◌<◌, ◌≤◌, Bool, true, false, ◌||◌, ◌&&◌, ◌==◌, List, [], ◌∷◌, Option, None, Some, length, nat_lt, slice_index_or, All, arith, eqb-true, if◌then◌else◌}
-use Rattle.std.specs.List.{list_any, list_all}
+use Rattle.std.proofs.Common.{◌≡◌, ◌∙◌, refl, sym, ap, subst, ℕ, ◌<◌, ◌≤◌, Bool, true, false, ◌||◌, ◌&&◌, ◌==◌, List, [], ◌∷◌, Option, None, Some, length, slice_index_or, All, arith, eqb-true, if◌then◌else◌}
+use Rattle.std.specs.List.{list_any}
 use Rattle.std.specs.BTreeMap.{BTreeMap, is_at}
 use Rattle.std.specs.BTreeSet.{BTreeSet}
-use Rattle.std.specs.Ordering.{nat_cmp, is_eq}
+use Rattle.std.specs.Ordering.{nat_cmp}
 use Rattle.std.specs.Cmp.{nat_eq_equiv, unsigned_ties}
 use Rattle.std.proofs.lemmas.Bool.{lt-ltb}
 use Rattle.std.proofs.lemmas.Grind.{common_steps}
@@ -24,14 +24,16 @@ pub ready_stays : (schema : Schema) (notes notes' : List (BTreeMap (List Value) 
     → KeepsNotes notes notes' → KeepsRoom lines lines' → IsReady schema notes lines p → IsReady schema notes' lines' p
 ready_stays schema notes notes' lines lines' p k r ready = record {
   room = (let a : 1 < (line_at lines p.0).room = ready.room in let b : (line_at lines p.0).room ≤ (line_at lines' p.0).room = r p.0 in omega arith);
-  noted = λ j lt. k j _ _ (ready.noted j lt) }
+  noted = λ j lt. k j _ _ (ready.noted j lt);
+}
 
 pub change_stays : (schema : Schema) (notes notes' : List (BTreeMap (List Value) (BTreeSet ℕ))) (lines lines' : List (ℕ × Line)) (ids ids' : List ℕ) (p : ℕ × Option (List Value))
     → KeepsNotes notes notes' → KeepsRoom lines lines' → ((n : ℕ) → names_row ids n ≡ true → names_row ids' n ≡ true) → IsReadyChange schema notes lines ids p → IsReadyChange schema notes' lines' ids' p
 change_stays schema notes notes' lines lines' ids ids' p k r i ready = record {
   room = (let a : 0 < (line_at lines p.0).room = ready.room in let b : (line_at lines p.0).room ≤ (line_at lines' p.0).room = r p.0 in omega arith);
   noted = λ row e j lt. k j _ _ (ready.noted row e j lt);
-  listed = i _ ready.listed }
+  listed = i _ ready.listed;
+}
 
 -- what holds of each pair holds of what the list has for a row
 pub at_row : {X : Type 0} (P : ℕ × X → Type 0) (xs : List (ℕ × X)) → All P xs → (n : ℕ) (x : X) → for_row xs n ≡ Some x → P (n, x)

@@ -11,7 +11,6 @@ use Rattle.s2_value.specs.declared.schemas.Schema.{Schema}
 use Rattle.s2_value.specs.Schemas.{keys_of, key}
 use Rattle.s2_value.specs.Order.{same_row}
 use Rattle.s2_rowstore.specs.declared.chain.Version.{Version}
-use Rattle.s2_rowstore.specs.declared.chain.Slot.{Slot}
 use Rattle.s2_rowstore.specs.Chains.{Line, Body, own, begun}
 use Rattle.s2_rowstore.specs.Lines.{body_at, names_row, for_row, with_begun, with_slot}
 use Rattle.s2_rowstore.specs.Keys.{row_has, slot_has, body_has, ids_of, noted_at, KeepsNotes, IsNotedRow}
@@ -45,9 +44,11 @@ has_begun places q t None b e = inl e
 has_begun places q t (Some row) b e = split (either_or _ _ e) where
   H : Version → Bool
   H v = row_has places q v.row
+
   parts : (list_any (λ v. row_has places q v.row) b.0 ≡ true) ⊎ ((row_has places q row || false) ≡ true) → Gained places q b (Some row)
   parts (inl h) = inl (left_or _ _ h)
   parts (inr h) = inr (row, refl, no_or _ h)
+
   split : (list_any (λ v. row_has places q v.row) (b.0 ++ begun t (Some row)) ≡ true) ⊎ (slot_has places q b.1 ≡ true) → Gained places q b (Some row)
   split (inl h) = parts (either_or _ _ (sym (list_any-append (λ v. row_has places q v.row) b.0 (begun t (Some row))) ∙ h))
   split (inr h) = inl (right_or _ _ h)
@@ -78,6 +79,7 @@ pub posted_begun : (schema : Schema) (notes : List (BTreeMap (List Value) (BTree
 posted_begun schema notes old new t rows same ready posted j q n lt e = split (has_begun (places_of schema j) q t (for_row rows n) (body_at old n) (sym (ap F (same n)) ∙ e)) where
   F : Body → Bool
   F b = body_has (places_of schema j) q b
+
   split : Gained (places_of schema j) q (body_at old n) (for_row rows n) → noted_at notes j q n ≡ true
   split (inl h) = posted j q n lt h
   split (inr h) = noted_key schema notes n j q h.0 lt (at_row (IsReady schema notes old) rows ready n h.0 h.1).noted h.2
@@ -87,6 +89,7 @@ pub posted_put : (schema : Schema) (notes : List (BTreeMap (List Value) (BTreeSe
 posted_put schema notes old new ids k changes same ready posted j q n lt e = split (has_slotted (places_of schema j) q k (for_row changes n) (body_at old n) (sym (ap F (same n)) ∙ e)) where
   F : Body → Bool
   F b = body_has (places_of schema j) q b
+
   split : (body_has (places_of schema j) q (body_at old n) ≡ true) ⊎ ((row : List Value) × (for_row changes n ≡ Some (Some row)) × (row_has (places_of schema j) q row ≡ true)) → noted_at notes j q n ≡ true
   split (inl h) = posted j q n lt h
   split (inr h) = noted_key schema notes n j q h.0 lt ((at_row (IsReadyChange schema notes old ids) changes ready n (Some h.0) h.1).noted h.0 refl) h.2
@@ -97,9 +100,9 @@ pub listed_begun : (changed : List (BTreeSet ℕ)) (old new : List (ℕ × Line)
 listed_begun changed old new t rows same listed k n small e =
     let F : Body → Bool = λ b. is_some (own k b.1) in
     listed k n small (sym (go (for_row rows n)) ∙ sym (ap F (same n)) ∙ e) where
-  go : (o : Option (List Value)) → is_some (own k (with_begun t o (body_at old n)).1) ≡ is_some (own k (body_at old n).1)
-  go None = refl
-  go (Some row) = refl
+      go : (o : Option (List Value)) → is_some (own k (with_begun t o (body_at old n)).1) ≡ is_some (own k (body_at old n).1)
+      go None = refl
+      go (Some row) = refl
 
 ids_of_same : (xs : List (BTreeSet ℕ)) (k : ℕ) (s : BTreeSet ℕ) → k < length xs → ids_of (slice_set xs k s) k ≡ s.keys
 ids_of_same [] k s lt = absurd (omega arith)
@@ -131,12 +134,13 @@ pub listed_put : (changed : List (BTreeSet ℕ)) (k : ℕ) (s s' : BTreeSet ℕ)
 listed_put changed k s s' schema notes old new changes lt all is more same ready listed j n small e =
     let F : Body → Bool = λ b. is_some (own j b.1) in
     go (for_row changes n) refl (sym (ap F (same n)) ∙ e) where
-  mine : (b : Bool) → (k == j) ≡ b → (c : Option (List Value)) → names_row s'.keys n ≡ true → is_some (if b then Some c else None) ≡ true → names_row (ids_of (slice_set changed k s') j) n ≡ true
-  mine true t c named e = ap (λ i. names_row (ids_of (slice_set changed k s') i) n) (sym (eqb-true k j t)) ∙ ap (λ ids. names_row ids n) (ids_of_same changed k s' (omega arith)) ∙ named
-  mine false t c named e = absurd (false≢true e)
-  go : (o : Option (Option (List Value))) → for_row changes n ≡ o → is_some (own j (with_slot k o (body_at old n)).1) ≡ true → names_row (ids_of (slice_set changed k s') j) n ≡ true
-  go None f e = names_in changed k j n s s' lt all is (more n) (listed j n small e)
-  go (Some c) f e = mine (k == j) refl c (at_row (IsReadyChange schema notes old s'.keys) changes ready n c f).listed e
+      mine : (b : Bool) → (k == j) ≡ b → (c : Option (List Value)) → names_row s'.keys n ≡ true → is_some (if b then Some c else None) ≡ true → names_row (ids_of (slice_set changed k s') j) n ≡ true
+      mine true t c named e = ap (λ i. names_row (ids_of (slice_set changed k s') i) n) (sym (eqb-true k j t)) ∙ ap (λ ids. names_row ids n) (ids_of_same changed k s' (omega arith)) ∙ named
+      mine false t c named e = absurd (false≢true e)
+
+      go : (o : Option (Option (List Value))) → for_row changes n ≡ o → is_some (own j (with_slot k o (body_at old n)).1) ≡ true → names_row (ids_of (slice_set changed k s') j) n ≡ true
+      go None f e = names_in changed k j n s s' lt all is (more n) (listed j n small e)
+      go (Some c) f e = mine (k == j) refl c (at_row (IsReadyChange schema notes old s'.keys) changes ready n c f).listed e
 
 pub listed_same : (changed : List (BTreeSet ℕ)) (old new : List (ℕ × Line)) → SameBodies old new → IsListed changed old → IsListed changed new
 listed_same changed old new same listed k n small e =

@@ -1,8 +1,7 @@
 -- One step of a loop over pairs of a row number and something for that row.
-use Rattle.std.proofs.Common.{◌≡◌, ◌∙◌, refl, sym, ap, subst, ℕ, Bool, true, false, ◌&&◌, ◌==◌, List, [], ◌∷◌, Option, None, Some, is_none, nat_lt, if◌then◌else◌, eqb-true}
+use Rattle.std.proofs.Common.{◌≡◌, ◌∙◌, refl, sym, ap, ℕ, Bool, true, false, ◌&&◌, ◌==◌, List, [], ◌∷◌, Option, None, Some, is_none, nat_lt, if◌then◌else◌, eqb-true}
 use Rattle.std.specs.Cmp.{nat_eq_equiv}
 use Rattle.std.proofs.lemmas.Bool.{false≢true}
-use Rattle.std.specs.List.{list_all}
 use Rattle.s2_rowstore.specs.Chains.{Line, Body}
 use Rattle.s2_rowstore.specs.Lines.{for_row, are_apart, have_room, line_at}
 
@@ -22,13 +21,14 @@ pub pair_done : {X : Type 0} (apply : Option X → Body → Body) → ((b : Body
     → ((n : ℕ) → apply (for_row items n) (cur n) ≡ target n) → (n : ℕ) → apply (for_row rest n) (next n) ≡ target n
 pair_done {X} apply nothing p rest items e apart cur next target step inv n =
     go (p.0 == n) refl (sym (ap (λ xs. apply (for_row xs n) (cur n)) e) ∙ inv n) where
-  alone : for_row rest p.0 ≡ None
-  alone = none_from _ (both _ _ (sym (ap (λ (xs : List (ℕ × X)). are_apart xs) e) ∙ apart)).0
-  go : (b : Bool) → (p.0 == n) ≡ b → apply (if b then Some p.1 else for_row rest n) (cur n) ≡ target n → apply (for_row rest n) (next n) ≡ target n
-  go true t h =
-      let same : p.0 ≡ n = eqb-true p.0 n t in
-      ap (λ o. apply o (next n)) (ap (for_row rest) (sym same) ∙ alone) ∙ nothing (next n) ∙ step n ∙ ap (λ b. if b then apply (Some p.1) (cur n) else cur n) t ∙ h
-  go false t h = ap (apply (for_row rest n)) (step n ∙ ap (λ b. if b then apply (Some p.1) (cur n) else cur n) t) ∙ h
+      alone : for_row rest p.0 ≡ None
+      alone = none_from _ (both _ _ (sym (ap (λ (xs : List (ℕ × X)). are_apart xs) e) ∙ apart)).0
+
+      go : (b : Bool) → (p.0 == n) ≡ b → apply (if b then Some p.1 else for_row rest n) (cur n) ≡ target n → apply (for_row rest n) (next n) ≡ target n
+      go true t h =
+          let same : p.0 ≡ n = eqb-true p.0 n t in
+          ap (λ o. apply o (next n)) (ap (for_row rest) (sym same) ∙ alone) ∙ nothing (next n) ∙ step n ∙ ap (λ b. if b then apply (Some p.1) (cur n) else cur n) t ∙ h
+      go false t h = ap (apply (for_row rest n)) (step n ∙ ap (λ b. if b then apply (Some p.1) (cur n) else cur n) t) ∙ h
 
 not_some : {X : Type 0} (x : X) → Some x ≡ None → ⊥
 not_some x e = absurd (false≢true (ap is_none e))

@@ -1,5 +1,5 @@
 -- The versions of one row, and its open write.
-use Rattle.std.specs.Prelude.{◌≡◌, ℕ, Bool, true, false, not, ◌&&◌, ◌==◌, nat_le, List, length, [], ◌∷◌, ◌++◌, map, Option, Some, None, is_some, is_none, cond, if◌then◌else◌}
+use Rattle.std.specs.Prelude.{ℕ, Bool, false, not, ◌&&◌, ◌==◌, nat_le, List, length, [], ◌∷◌, ◌++◌, map, Option, Some, None, is_some, is_none, cond, if◌then◌else◌}
 use Rattle.std.specs.List.{find, filter}
 use Rattle.std.specs.Option.{option_map}
 use Rattle.s2_value.specs.declared.values.Value.{Value}

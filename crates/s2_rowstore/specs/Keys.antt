@@ -1,5 +1,5 @@
 -- Which rows have which keys.
-use Rattle.std.specs.Prelude.{◌≡◌, ◌<◌, ℕ, zero, suc, length, Bool, true, false, ◌||◌, List, [], ◌∷◌, Option, Some, None, slice_index_or}
+use Rattle.std.specs.Prelude.{◌≡◌, ◌<◌, ℕ, zero, suc, length, Bool, true, false, ◌||◌, List, [], ◌∷◌, Option, Some, None}
 use Rattle.std.specs.List.{list_any}
 use Rattle.std.specs.Map.{lookup}
 use Rattle.std.specs.Ordering.{nat_cmp}
@@ -10,7 +10,6 @@ use Rattle.s2_value.specs.Order.{row_cmp, row_eq}
 use Rattle.s2_value.specs.Rows.{key_of}
 use Rattle.s2_value.specs.Schemas.{keys_of, key}
 use Rattle.s2_value.specs.declared.schemas.Schema.{Schema}
-use Rattle.s2_rowstore.specs.declared.chain.Version.{Version}
 use Rattle.s2_rowstore.specs.declared.chain.Slot.{Slot}
 use Rattle.s2_rowstore.specs.Chains.{Body}
 

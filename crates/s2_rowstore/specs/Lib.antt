@@ -3,3 +3,4 @@ pub mod Keys
 pub mod Lines
 pub mod Prepared
 pub mod Store
+pub mod Visible

@@ -1,11 +1,10 @@
 -- The lines of all rows, by row number.
-use Rattle.std.specs.Prelude.{◌≡◌, ℕ, Bool, true, ◌&&◌, ◌==◌, nat_lt, is_none, List, [], ◌∷◌, ◌++◌, Option, Some, None, unwrap_or, if◌then◌else◌}
+use Rattle.std.specs.Prelude.{ℕ, Bool, true, ◌&&◌, ◌==◌, nat_lt, is_none, List, [], ◌∷◌, ◌++◌, Option, Some, None, unwrap_or, if◌then◌else◌}
 use Rattle.std.specs.List.{list_any, list_all}
 use Rattle.std.specs.Map.{lookup}
 use Rattle.std.specs.Ordering.{nat_cmp}
 use Rattle.std.specs.BTreeMap.{is_at}
 use Rattle.s2_value.specs.declared.values.Value.{Value}
-use Rattle.s2_rowstore.specs.declared.chain.Slot.{Slot}
 use Rattle.s2_rowstore.specs.Chains.{Line, Body, body, empty_line, begun, chain_after, slot_after, own}
 
 -- the line of a row

@@ -1,7 +1,6 @@
 -- What contracts see of a row store.
-use Rattle.std.specs.Prelude.{◌≡◌, ◌<◌, ℕ, Bool, true, ◌&&◌, nat_le, length, List, [], ◌∷◌, Option, None, Some, is_some, is_none, slice_index_or}
+use Rattle.std.specs.Prelude.{◌≡◌, ◌<◌, ℕ, Bool, true, length, List, [], Option, None, Some, is_some, slice_index_or}
 use Rattle.std.specs.List.{list_all}
-use Rattle.std.specs.Option.{option_map}
 use Rattle.std.specs.BTreeMap.{BTreeMap}
 use Rattle.std.specs.BTreeSet.{BTreeSet}
 use Rattle.s2_value.specs.declared.values.Value.{Value}
@@ -9,7 +8,7 @@ use Rattle.s2_value.specs.declared.schemas.Schema.{Schema}
 use Rattle.s2_value.specs.Schemas.{keys_of, fits}
 use Rattle.s2_rowstore.specs.declared.chain.Version.{Version}
 use Rattle.s2_rowstore.specs.declared.chain.Slot.{Slot}
-use Rattle.s2_rowstore.specs.Chains.{Line, Body, own, living_since, seen, row_at}
+use Rattle.s2_rowstore.specs.Chains.{Line, own}
 use Rattle.s2_rowstore.specs.Lines.{body_at, names_row}
 use Rattle.s2_rowstore.specs.Keys.{body_has, noted_at, ids_of}
 

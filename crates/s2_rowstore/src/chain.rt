@@ -1,10 +1,12 @@
 // The versions of one row, and its open write.
 ghost use Rattle.std.specs.Prelude.{◌≡◌, ◌<◌, ◌≤◌, ℕ, ◌++◌, ◌-◌, [], None, Some, OnOk, OnErr, is_some, not, vec_len, map};
 ghost use Rattle.std.specs.Option.{option_copied, option_map};
-ghost use Rattle.std.specs.List.{find};
+ghost use Rattle.std.specs.List.{list_any};
+ghost use Rattle.s2_rowstore.specs.Keys.{row_has, slot_has, body_has};
 ghost use Rattle.s2_rowstore.specs.Chains.{body, row_at, is_visible, is_living, living_since, ended, begun, own, chain_after, slot_after, seen, end_version, kept, is_done, is_empty_body};
 
-use s2_value::{Memory, Row};
+use crate::notes::row_has;
+use s2_value::{Memory, Row, Value};
 use std::alloc::Global;
 use std::marker::Model;
 
@@ -93,6 +95,19 @@ fn living_since(versions: &[Version]) -> Option<u64>
         left = later;
     }
     None
+}
+
+fn any_has(versions: &[Version], places: &[u8], key: &[Value]) -> bool
+    ensures { result ≡ list_any (λ v. row_has places.now key.now v.row) versions.now }
+{
+    let mut left = versions;
+    while let [version, later @ ..] = left {
+        if row_has(places, key, version.row.as_slice()) {
+            return true;
+        }
+        left = later;
+    }
+    false
 }
 
 fn is_kept(version: &Version, h: u64) -> bool
@@ -196,15 +211,44 @@ impl Chain {
         end_living(self.versions.as_mut_slice(), time);
     }
 
-    /// Forgets the versions that ended at or before `h`.
-    pub(crate) fn cut(&mut self, h: u64)
+    fn forget(&mut self, h: u64)
         ensures { body self.new ≡ (kept h self.old.versions, self.old.slot) }
     {
         self.versions.retain(|version| is_kept(version, h));
     }
 
-    /// Whether there is neither a version nor an open write.
-    pub(crate) fn is_empty(&self) -> bool
+    /// Forgets the versions that ended at or before `h`, and answers whether something is left.
+    pub(crate) fn cut(&mut self, h: u64) -> bool
+        ensures after { body self.new ≡ (kept h self.old.versions, self.old.slot) }
+        ensures left { result ≡ not (is_empty_body (body self.new)) }
+    {
+        self.forget(h);
+        !self.is_empty()
+    }
+
+    /// Whether some version or the open write has the key at these places.
+    pub(crate) fn has_key(&self, places: &[u8], key: &[Value]) -> bool
+        ensures { result ≡ body_has places.now key.now (body self.now) }
+    {
+        any_has(self.versions.as_slice(), places, key) || self.slot_has(places, key)
+    }
+
+    fn slot_has(&self, places: &[u8], key: &[Value]) -> bool
+        ensures { result ≡ slot_has places.now key.now self.now.slot }
+    {
+        match &self.slot {
+            Some(
+                Slot {
+                    change: Some(row),
+                    ..
+                },
+            ) => row_has(places, key, row.as_slice()),
+            _ => false,
+        }
+    }
+
+    // Whether there is neither a version nor an open write.
+    fn is_empty(&self) -> bool
         ensures { result ≡ is_empty_body (body self.now) }
     {
         self.versions.is_empty() && self.slot.is_none()

@@ -1,11 +1,17 @@
 // The lines of all rows, by row number.
 ghost use Rattle.std.specs.Prelude.{◌≡◌, ◌<◌, ◌≤◌, ℕ, ◌++◌, ◌-◌, [], None, Some, OnOk, OnErr, is_some, false, true, vec_len, ◌==◌, if◌then◌else◌};
 ghost use Rattle.std.specs.Option.{option_copied, option_map};
-ghost use Rattle.s2_rowstore.specs.Chains.{body, own, seen, living_since, ended, begun};
+ghost use Rattle.s2_rowstore.specs.Chains.{body, own, seen, living_since, ended, begun, kept};
+ghost use Rattle.std.specs.Prelude.{IfOk};
+ghost use Rattle.std.specs.List.{filter};
+ghost use Rattle.s2_rowstore.specs.Keys.{body_has};
+ghost use Rattle.std.specs.Ordering.{nat_cmp};
+ghost use Rattle.std.specs.List.Sorted.{IsStrictlySortedBy};
+ghost use Rattle.s2_rowstore.specs.Visible.{visible_in, numbers};
 ghost use Rattle.s2_rowstore.specs.Lines.{line_at, body_at, for_row, names_row, are_apart, have_room, with_begun, with_slot, committed, undone};
 
 use crate::chain::{Chain, Slot};
-use s2_value::{Memory, Row};
+use s2_value::{Duplicate, Memory, Row, Seq, TableRows, Value};
 use std::alloc::Global;
 use std::collections::{BTreeMap, BTreeSet};
 
@@ -147,4 +153,60 @@ fn undo_each(lines: &mut Lines, ids: &BTreeSet<u64>, actor: u8)
     for id in ids {
         undo_line(lines, *id, actor);
     }
+}
+
+/// The rows as the actor sees them at r, by row number.
+pub(crate) fn visible_rows(
+    lines: &Lines,
+    alloc: Global,
+    actor: u8,
+    r: u64,
+) -> Result<TableRows, Memory>
+    ensures rows { IfOk result (λ rows. rows ≡ visible_in actor r lines.now.entries) }
+    ensures ordered { IsStrictlySortedBy nat_cmp (numbers lines.now.entries) }
+{
+    let mut rows = Seq::new(alloc);
+    for (id, chain) in lines {
+        if let Some(row) = chain.seen(actor, r) {
+            rows.add((*id, row.copy()?))?;
+        }
+    }
+    Ok(rows)
+}
+
+// Whether some version or open write of the row has the key at these places.
+fn row_has_key(lines: &Lines, id: u64, places: &[u8], key: &[Value]) -> bool
+    ensures { result ≡ body_has places.now key.now (body_at lines.now.entries id) }
+{
+    match lines.get(&id) {
+        Some(chain) => chain.has_key(places, key),
+        None => false,
+    }
+}
+
+/// Those of the rows of which some version or open write has the key at these places.
+pub(crate) fn rows_with_key(
+    lines: &Lines,
+    alloc: Global,
+    ids: &BTreeSet<u64>,
+    places: &[u8],
+    key: &[Value],
+) -> Result<Vec<u64>, Memory>
+    ensures rows { IfOk result (λ found. found.items ≡ filter (λ n. body_has places.now key.now (body_at lines.now.entries n)) ids.now.keys) }
+    ensures ordered { IsStrictlySortedBy nat_cmp ids.now.keys }
+{
+    let mut found = Vec::new(alloc);
+    for id in ids {
+        if row_has_key(lines, *id, places, key) {
+            found.push(*id)?;
+        }
+    }
+    Ok(found)
+}
+
+/// Forgets the versions that ended at or before `h`, and the rows of which nothing is left.
+pub(crate) fn cut_lines(lines: &mut Lines, h: u64)
+    ensures { (n : ℕ) → body_at lines.new.entries n ≡ (kept h (body_at lines.old.entries n).0, (body_at lines.old.entries n).1) }
+{
+    lines.retain(|_, chain| chain.cut(h));
 }

@@ -37,13 +37,7 @@ pub(crate) fn note(notes: &mut Notes, alloc: Global, key: Key, id: u64) -> Resul
 }
 
 // Notes the row number for a value of key `j`.
-fn note_at(
-    notes: &mut [Notes],
-    alloc: Global,
-    j: usize,
-    key: Key,
-    id: u64,
-) -> Result<(), Memory>
+fn note_at(notes: &mut [Notes], alloc: Global, j: usize, key: Key, id: u64) -> Result<(), Memory>
     requires { j < length notes.old }
     ensures kept { KeepsNotes notes.old notes.new }
     ensures added { OnOk result (noted_at notes.new j key id ≡ true) }

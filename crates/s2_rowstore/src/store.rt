@@ -2,15 +2,20 @@
 ghost use Rattle.std.specs.Prelude.{◌≡◌, ◌<◌, ◌≤◌, ℕ, ◌++◌, [], None, Some, OnOk, OnErr, IfOk, true, vec_len, length, List, if◌then◌else◌, ◌==◌};
 ghost use Rattle.std.specs.Option.{option_copied, option_map};
 ghost use Rattle.s2_rowstore.specs.Chains.{own, chain_after, slot_after, living_since, ended, begun, seen, kept};
-ghost use Rattle.s2_rowstore.specs.Store.{chain, slot, rows_fit, changes_fit, slot_put};
-ghost use Rattle.s2_rowstore.specs.Lines.{for_row, are_apart};
+ghost use Rattle.s2_rowstore.specs.Store.{chain, slot, rows_fit, changes_fit, slot_put, has_key};
+ghost use Rattle.s2_value.specs.Schemas.{keys_of};
+ghost use Rattle.s2_rowstore.specs.Lines.{for_row, are_apart, names_row};
+ghost use Rattle.s2_rowstore.specs.Visible.{are_rising, numbers};
 
 use crate::chain::{Slot, Version};
 use crate::copies::copy_schema;
-use crate::lines::{Lines, begin_all, commit_all, end_line, put_all, row_since, seen_row, undo_all};
-use crate::ready::{ready_changes, ready_rows};
+use crate::lines::{
+    Lines, begin_all, commit_all, cut_lines, end_line, put_all, row_since, rows_with_key, seen_row,
+    undo_all, visible_rows,
+};
 use crate::notes::Notes;
-use s2_value::{Key, Memory, Row, Schema};
+use crate::ready::{ready_changes, ready_rows};
+use s2_value::{Key, Memory, Row, Schema, TableRows};
 use std::alloc::Global;
 use std::collections::{BTreeMap, BTreeSet};
 use std::marker::Model;
@@ -164,8 +169,55 @@ impl Rowstore {
     {
         let ids = &mut self.changed[actor as usize];
         let notes = self.notes.as_mut_slice();
-        ready_changes(&mut self.lines, notes, ids, alloc, &self.schema, changes.as_slice())?;
+        ready_changes(
+            &mut self.lines,
+            notes,
+            ids,
+            alloc,
+            &self.schema,
+            changes.as_slice(),
+        )?;
         put_all(&mut self.lines, actor, changes);
         Ok(())
+    }
+
+    /// The rows as the actor sees them at `r`: its own open writes, or else the versions at `r`.
+    #[tactic(auto, unfolding(crate::specs::Store::chain, crate::specs::Store::slot))]
+    pub fn visible(&self, alloc: Global, actor: u8, r: u64) -> Result<TableRows, Memory>
+        ensures rows { IfOk result (λ rows. (n : ℕ) → for_row rows n ≡ seen actor r (chain self.now n, slot self.now n)) }
+        ensures rising { IfOk result (λ rows. are_rising (numbers rows) ≡ true) }
+    {
+        visible_rows(&self.lines, alloc, actor, r)
+    }
+
+    /// The numbers of the rows, rising, of which some kept version or open write has the key `j`: unique keys, then indexes, from 0.
+    #[tactic(auto, unfolding(crate::specs::Store::has_key))]
+    pub fn with_key(
+        &self,
+        alloc: Global,
+        schema: &Schema,
+        j: usize,
+        key: &Key,
+    ) -> Result<Vec<u64>, Memory>
+        requires same { schema.now ≡ self.now.schema }
+        requires number { j < length (keys_of self.now.schema) }
+        ensures rows { IfOk result (λ ids. (n : ℕ) → names_row ids.items n ≡ has_key self.now j key.now n) }
+        ensures rising { IfOk result (λ ids. are_rising ids.items ≡ true) }
+    {
+        let Some(ids) = self.notes[j].get(key) else {
+            return Ok(Vec::new(alloc));
+        };
+        let places = schema.key_columns(j).as_slice();
+        rows_with_key(&self.lines, alloc, ids, places, key.as_slice())
+    }
+
+    /// Forgets the versions that ended at or before `h`.
+    #[tactic(auto, unfolding(crate::specs::Store::chain, crate::specs::Store::slot))]
+    pub fn cut(&mut self, h: u64)
+        ensures schema { self.new.schema ≡ self.old.schema }
+        ensures chains { (n : ℕ) → chain self.new n ≡ kept h (chain self.old n) }
+        ensures slots { (n : ℕ) → slot self.new n ≡ slot self.old n }
+    {
+        cut_lines(&mut self.lines, h);
     }
 }

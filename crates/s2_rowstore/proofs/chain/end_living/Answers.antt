@@ -1,4 +1,4 @@
-use Rattle.std.proofs.Common.{◌≡◌, ◌∙◌, ap, sym, slice_set, arith}
+use Rattle.std.proofs.Common.{◌∙◌, ap, sym, slice_set, arith}
 use Rattle.std.proofs.lemmas.List.Edits.{map_over_more}
 use Rattle.s2_rowstore.specs.Chains.{end_version}
 use Rattle.s2_rowstore.proofs.chain.end_living.Goals as goal

@@ -9,4 +9,4 @@ invariant-loop-id l =
     × (are_apart (into_iter_items l.id-iterator) ≡ true)
     × (have_room 0 l.lines.entries (into_iter_items l.id-iterator) ≡ true)
     × ((n : ℕ) → with_slot l.actor (for_row (into_iter_items l.id-iterator) n) (body_at l.lines.entries n)
-        ≡ with_slot l.actor (for_row (into_iter_items l.initial.id-iterator) n) (body_at l.initial.lines.entries n))
+    ≡ with_slot l.actor (for_row (into_iter_items l.initial.id-iterator) n) (body_at l.initial.lines.entries n))

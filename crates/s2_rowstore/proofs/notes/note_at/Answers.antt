@@ -1,4 +1,4 @@
-use Rattle.std.proofs.Common.{◌≡◌, ◌∙◌}
+use Rattle.std.proofs.Common.{◌∙◌}
 use Rattle.std.proofs.lemmas.Result.{on_ok_weaker}
 use Rattle.s2_rowstore.proofs.Noted.{kept_at, noted_set}
 use Rattle.s2_rowstore.proofs.notes.note_at.Goals as goal

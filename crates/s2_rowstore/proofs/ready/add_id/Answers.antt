@@ -1,4 +1,4 @@
-use Rattle.std.proofs.Common.{◌≡◌, ◌∙◌, sym}
+use Rattle.std.proofs.Common.{◌∙◌, sym}
 use Rattle.std.proofs.lemmas.Result.{on_ok_weaker}
 use Rattle.s2_rowstore.proofs.Prepared.{names_any}
 use Rattle.s2_rowstore.proofs.ready.add_id.Goals as goal

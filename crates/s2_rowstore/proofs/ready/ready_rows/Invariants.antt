@@ -1,4 +1,4 @@
-use Rattle.std.proofs.Common.{◌≡◌, ◌<◌, ℕ, List, slice_index_or}
+use Rattle.std.proofs.Common.{◌<◌, ℕ, List, slice_index_or}
 use Rattle.s2_value.specs.declared.values.Value.{Value}
 use Rattle.s2_rowstore.specs.Keys.{KeepsNotes}
 use Rattle.s2_rowstore.specs.Prepared.{IsReady, SameBodies}

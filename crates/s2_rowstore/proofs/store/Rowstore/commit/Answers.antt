@@ -1,4 +1,4 @@
-use Rattle.std.proofs.Common.{◌≡◌, ◌∙◌, sym, ap, Option}
+use Rattle.std.proofs.Common.{◌∙◌, sym, ap, Option}
 use Rattle.s2_rowstore.specs.declared.chain.Slot.{Slot}
 use Rattle.s2_rowstore.specs.Chains.{Body}
 use Rattle.s2_rowstore.specs.Keys.{body_has}
@@ -16,4 +16,5 @@ invariant_of-self c =
       keys = c.self.invariant.keys;
       actors = actors_stay c.self.inside.changed.items c.args.actor c.clear.new.self c.self.invariant.actors;
       posted = posted_as c.self.inside.schema c.self.inside.notes.items c.self.inside.lines.entries c.commit_all.new.lines.entries (λ places q n e. sym (has_committed places q c.args.actor c.args.time _) ∙ sym (ap (body_has places q) (c.commit_all.ensures n)) ∙ e) c.self.invariant.posted;
-      listed = still_listed c.self.inside.changed.items c.args.actor c.clear.new.self c.self.inside.lines.entries c.commit_all.new.lines.entries (λ n. ap slot_of (c.commit_all.ensures n)) c.self.invariant.listed }
+      listed = still_listed c.self.inside.changed.items c.args.actor c.clear.new.self c.self.inside.lines.entries c.commit_all.new.lines.entries (λ n. ap slot_of (c.commit_all.ensures n)) c.self.invariant.listed;
+    }

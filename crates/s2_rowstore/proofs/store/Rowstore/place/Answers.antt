@@ -1,4 +1,4 @@
-use Rattle.std.proofs.Common.{◌≡◌, ◌∙◌, ℕ, List, All, length, sym, subst, arith, rules}
+use Rattle.std.proofs.Common.{ℕ, List, All, sym, subst, rules}
 use Rattle.std.specs.BTreeMap.{BTreeMap}
 use Rattle.std.specs.BTreeSet.{BTreeSet}
 use Rattle.std.proofs.lemmas.List.{take_at}
@@ -31,5 +31,6 @@ invariant_of-self-2 c =
       keys = search rules;
       actors = c.self.invariant.actors;
       posted = posted_begun schema notes mid new c.args.time c.args.rows.items c.begin_all.ensures ready (posted_more schema c.self.inside.notes.items notes old mid c.ready_rows.ensures.same more c.self.invariant.posted);
-      listed = listed_begun c.self.inside.changed.items mid new c.args.time c.args.rows.items c.begin_all.ensures (listed_same c.self.inside.changed.items old mid c.ready_rows.ensures.same c.self.invariant.listed) } in
+      listed = listed_begun c.self.inside.changed.items mid new c.args.time c.args.rows.items c.begin_all.ensures (listed_same c.self.inside.changed.items old mid c.ready_rows.ensures.same c.self.invariant.listed);
+    } in
     subst P (sym (take_at notes _ _ (search rules))) kept

@@ -1,4 +1,4 @@
-use Rattle.std.proofs.Common.{◌≡◌, ◌∙◌, ℕ, List, Option, All, length, sym, subst, arith, rules, slice_set}
+use Rattle.std.proofs.Common.{ℕ, List, Option, All, sym, subst, rules, slice_set}
 use Rattle.std.specs.BTreeMap.{BTreeMap}
 use Rattle.std.specs.BTreeSet.{BTreeSet}
 use Rattle.std.proofs.lemmas.List.{take_at}
@@ -30,7 +30,8 @@ invariant_of-self c =
       keys = search rules;
       actors = actors_stay c.self.inside.changed.items c.args.actor ids c.self.invariant.actors;
       posted = posted_more schema c.self.inside.notes.items notes old mid c.ready_changes.ensures.same more c.self.invariant.posted;
-      listed = listed_more c.self.inside.changed.items c.args.actor c.index_mut-ids.result.now ids old mid c.requires.actor c.self.invariant.actors c.index_mut-ids.ensures.value c.ready_changes.ensures.ids c.ready_changes.ensures.same c.self.invariant.listed } in
+      listed = listed_more c.self.inside.changed.items c.args.actor c.index_mut-ids.result.now ids old mid c.requires.actor c.self.invariant.actors c.index_mut-ids.ensures.value c.ready_changes.ensures.ids c.ready_changes.ensures.same c.self.invariant.listed;
+    } in
     subst P (sym (take_at notes _ _ (search rules))) kept
 
 pub invariant_of-self-2 : goal.invariant_of-self-2
@@ -52,5 +53,6 @@ invariant_of-self-2 c =
       actors = actors_stay c.self.inside.changed.items c.args.actor ids c.self.invariant.actors;
       posted = posted_put schema notes mid new ids.keys c.args.actor c.args.changes.items c.put_all.ensures ready (posted_more schema c.self.inside.notes.items notes old mid c.ready_changes.ensures.same more c.self.invariant.posted);
       listed = listed_put c.self.inside.changed.items c.args.actor was ids schema notes mid new c.args.changes.items c.requires.actor c.self.invariant.actors c.index_mut-ids.ensures.value c.ready_changes.ensures.ids c.put_all.ensures ready
-        (listed_same c.self.inside.changed.items old mid c.ready_changes.ensures.same c.self.invariant.listed) } in
+          (listed_same c.self.inside.changed.items old mid c.ready_changes.ensures.same c.self.invariant.listed);
+    } in
     subst P (sym (take_at notes _ _ (search rules))) kept

@@ -1,8 +1,8 @@
-use Rattle.std.proofs.Common.{rules, ◌≡◌, ◌∙◌, ap, not, List}
+use Rattle.std.proofs.Common.{rules, ◌∙◌, ap, not, List}
 use Rattle.std.proofs.lemmas.Fn.{filter_same}
 use Rattle.s2_rowstore.specs.declared.chain.Version.{Version}
 use Rattle.s2_rowstore.specs.Chains.{Line, Body, kept, is_done}
-use Rattle.s2_rowstore.proofs.chain.Chain.cut.Goals as goal
+use Rattle.s2_rowstore.proofs.chain.Chain.forget.Goals as goal
 
 pub returns : goal.returns
 returns c =
