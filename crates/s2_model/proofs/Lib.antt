@@ -21,3 +21,4 @@ pub mod MergeStep
 pub mod Whole
 pub mod Facts
 pub mod WorkedRows
+pub mod FileRows
