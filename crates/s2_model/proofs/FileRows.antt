@@ -8,6 +8,7 @@ use Rattle.std.proofs.lemmas.Bool.{false≢true, true≢false, both_ways, and_pa
 use Rattle.s2_value.specs.declared.schemas.Schema.{Schema}
 use Rattle.s2_value.specs.declared.values.Value.{Value}
 use Rattle.s2_value.specs.Order.{row_cmp, row_cmp_total}
+use Rattle.s2_value.specs.Columns.{has_place, are_distinct}
 use Rattle.s2_value.specs.Rows.{key_of}
 use Rattle.s2_model.specs.declared.scripts.Options.{Options}
 use Rattle.s2_model.specs.Table.{Table, RowOf, row_at, rises_above, IsTable}
@@ -140,6 +141,36 @@ file_order_rises schema [] a = refl
 file_order_rises schema (p ∷ rows) a =
     is_order_into schema p (file_order schema rows) (file_order_rises schema rows a.1) (each-file_order (Other p) schema rows a.0)
 
+turn_other : (p q : ℕ × RowOf) → Other p q → Other q p
+turn_other p q e = ne_eqb q.0 p.0 (λ f. eqb-false p.0 q.0 e (sym f))
+
+apart-into : (schema : Schema) (p : ℕ × RowOf) (rows : Table) → Each (Other p) rows → IsApart rows → IsApart (into_file_order schema p rows)
+apart-into schema p [] others a = (tt, tt)
+apart-into schema p (q ∷ rows) others a =
+    elim (stands_before schema p q) as (λ b. IsApart (cond b (p ∷ q ∷ rows) (q ∷ into_file_order schema p rows))) [
+      | true ↦ (others, a)
+      | false ↦ (each-into (Other q) schema p rows (turn_other p q others.0) a.0, apart-into schema p rows others.1 a.1)
+    ]
+
+pub apart-file_order : (schema : Schema) (rows : Table) → IsApart rows → IsApart (file_order schema rows)
+unfolding file_order
+apart-file_order schema [] a = tt
+apart-file_order schema (p ∷ rows) a = apart-into schema p (file_order schema rows) (each-file_order (Other p) schema rows a.0) (apart-file_order schema rows a.1)
+
+apart-drop : (k : ℕ) (rows : Table) → IsApart rows → IsApart (drop k rows)
+apart-drop zero [] a = tt
+apart-drop zero (p ∷ rows) a = a
+apart-drop (suc k) [] a = tt
+apart-drop (suc k) (p ∷ rows) a = apart-drop k rows a.1
+
+none_of : (p : ℕ × RowOf) (rows : Table) → Each (Other p) rows → has_place p.0 (row_ids rows) ≡ false
+none_of p [] a = refl
+none_of p (r ∷ rows) a = ap₂ ◌||◌ (turn_other p r a.0) (none_of p rows a.1)
+
+pub apart_ids : (rows : Table) → IsApart rows → are_distinct (row_ids rows) ≡ true
+apart_ids [] a = refl
+apart_ids (p ∷ rows) a = and_from _ _ (ap not (none_of p rows a.0)) (apart_ids rows a.1)
+
 -- parts of rows in order are in order
 
 order_take : (schema : Schema) (q : ℕ × RowOf) (k : ℕ) (rows : Table) → in_order_from schema q rows ≡ true → in_order_from schema q (take k rows) ≡ true
@@ -182,20 +213,22 @@ length_take (suc k) (x ∷ xs) = omega (arith, length_take k xs)
 pub record IsPiece (schema : Schema) (table : Table) (size : ℕ) (rows : Table) : Type 0 where
   pub in_table : Each (InTable table) rows
   pub order : is_in_file_order schema rows ≡ true
+  pub apart : IsApart rows
   pub some : 1 ≤ length rows
   pub most : length rows ≤ size
 
-pub cut_pieces : (schema : Schema) (table : Table) (times size : ℕ) (rows : Table) → 0 < size → Each (InTable table) rows → is_in_file_order schema rows ≡ true
+pub cut_pieces : (schema : Schema) (table : Table) (times size : ℕ) (rows : Table) → 0 < size → Each (InTable table) rows → is_in_file_order schema rows ≡ true → IsApart rows
     → Each (IsPiece schema table size) (cut_times times size rows)
-cut_pieces schema table times size [] pos each order = tt
-cut_pieces schema table zero size (p ∷ rows) pos each order = tt
-cut_pieces schema table (suc times) size (p ∷ rows) pos each order =
+cut_pieces schema table times size [] pos each order apart = tt
+cut_pieces schema table zero size (p ∷ rows) pos each order apart = tt
+cut_pieces schema table (suc times) size (p ∷ rows) pos each order apart =
     (record {
         in_table = each-take (InTable table) size (p ∷ rows) each;
         order = is_order_take schema size (p ∷ rows) order;
+        apart = apart-take size (p ∷ rows) apart;
         some = first size pos;
         most = length_take size (p ∷ rows) },
-     cut_pieces schema table times size (drop size (p ∷ rows)) pos (each_drop (InTable table) size (p ∷ rows) each) (is_order_drop schema size (p ∷ rows) order))
+     cut_pieces schema table times size (drop size (p ∷ rows)) pos (each_drop (InTable table) size (p ∷ rows) each) (is_order_drop schema size (p ∷ rows) order) (apart-drop size (p ∷ rows) apart))
   where
     first : (k : ℕ) → 0 < k → 1 ≤ length (take k (p ∷ rows))
     first zero f = absurd (omega arith)

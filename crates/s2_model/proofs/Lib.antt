@@ -22,3 +22,4 @@ pub mod Whole
 pub mod Facts
 pub mod WorkedRows
 pub mod FileRows
+pub mod SegmentFiles

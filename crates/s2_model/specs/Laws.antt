@@ -2,6 +2,7 @@
 use Rattle.std.specs.Prelude.{◌≡◌, ◌≤◌, ◌<◌, ◌+◌, ℕ, Bool, true, false, List, [], ◌∷◌, Some, length, map, nat_le, ◌&&◌, if◌then◌else◌, ◌==◌, is_some, count_by, sum_by}
 use Rattle.std.specs.List.{list_any, AllByRecursion}
 use Rattle.s2_value.specs.declared.schemas.Schema.{Schema}
+use Rattle.s2_value.specs.Columns.{are_distinct}
 use Rattle.s2_model.specs.declared.entries.Entry.{Entry}
 use Rattle.s2_model.specs.declared.entries.What.{What}
 use Rattle.s2_model.specs.declared.entries.What.TheVariants.{Move, Flush, Merge, Upload, Evict, Vacuum, Commit}
@@ -94,10 +95,13 @@ abbrev pub is_in_file_order : Schema → Table → Bool
 is_in_file_order schema [] = true
 is_in_file_order schema (p ∷ rows) = in_order_from schema p rows
 
--- a segment of this base has at least one row and at most segment_rows; each of its row numbers has a row at the base, and these rows are in file order
+-- a segment of this base has at least one row and at most segment_rows; its row numbers are distinct, each has a row at the base, and these rows are in file order
 pub record IsFile (schema : Schema) (options : Options) (H : History) (b : ℕ) (ids : List ℕ) : Type 0 where
   pub rows : row_ids (rows_by (state (upto b H)) ids) ≡ ids
   pub order : is_in_file_order schema (rows_by (state (upto b H)) ids) ≡ true
+  pub distinct : are_distinct ids ≡ true
+  pub from : AllByRecursion (λ n. 1 ≤ n) ids
+  pub below : AllByRecursion (λ n. n < next H) ids
   pub some : 1 ≤ length ids
   pub most : length ids ≤ options.segment_rows
 

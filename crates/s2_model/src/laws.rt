@@ -7,6 +7,7 @@ ghost use Rattle.s2_model.specs.Laws.{
   HorizonsArePinned,
   PhysicalEntriesChangeNoRow,
   OnlyCommitsChange,
+  SegmentsAreFiles,
 };
 
 /// Where each entry fits the history before it, the rows placed at a timestamp from the horizon on are together the content at that timestamp, no row number is placed twice, and each held row that there is has a living version in the row store.
@@ -42,4 +43,9 @@ pub fn physical_entries_change_no_row()
 /// Only a COMMIT changes the content.
 pub fn only_commits_change()
     ensures { OnlyCommitsChange }
+{}
+
+/// There each segment has from one row to as many as a segment takes, its row numbers are distinct, at least 1 and below the next free one, and those of rows of the content at its base, these rows are in file order, and the segments' numbers rise up to the last that was given.
+pub fn segments_are_files()
+    ensures { SegmentsAreFiles }
 {}
