@@ -23,3 +23,4 @@ pub mod Facts
 pub mod WorkedRows
 pub mod FileRows
 pub mod SegmentFiles
+pub mod Background

@@ -1,5 +1,6 @@
 pub mod Answer
 pub mod Background
+pub mod BackgroundLaws
 pub mod Defaults
 pub mod Driven
 pub mod Files

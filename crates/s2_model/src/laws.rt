@@ -1,4 +1,5 @@
 //! Laws on histories.
+ghost use Rattle.s2_model.specs.BackgroundLaws.{BackgroundEntriesFit, FaultsStay};
 ghost use Rattle.s2_model.specs.Laws.{
   HistoriesArePlaced,
   PlacedRowsAreRows,
@@ -48,4 +49,14 @@ pub fn only_commits_change()
 /// There each segment has from one row to as many as a segment takes, its row numbers are distinct, at least 1 and below the next free one, and those of rows of the content at its base, these rows are in file order, and the segments' numbers rise up to the last that was given.
 pub fn segments_are_files()
     ensures { SegmentsAreFiles }
+{}
+
+/// A background statement makes one entry at most, and that entry fits the history at which it is made, whoever may make it.
+pub fn background_entries_fit()
+    ensures { BackgroundEntriesFit }
+{}
+
+/// A fault of a port that a history allows at a timestamp is allowed there by each longer history too.
+pub fn faults_stay()
+    ensures { FaultsStay }
 {}
