@@ -1,13 +1,11 @@
 -- What background statements make fits, and faults stay allowed.
-use Rattle.std.proofs.Common.{◌≡◌, ℕ, zero, suc, ◌+◌, ◌<◌, ◌≤◌, Bool, true, false, not, ◌&&◌, ◌||◌, cond, ◌==◌, nat_lt, nat_le, List, [], ◌∷◌, ◌++◌, map, filter, find, length, Option, Some, None, is_some, MatchBool, ◌⊎◌, refl, sym, ap, ap₂, subst, ◌∙◌, ⊎_elim, arith}
+use Rattle.std.proofs.Common.{◌≡◌, ℕ, suc, ◌+◌, ◌<◌, ◌≤◌, Bool, true, false, not, ◌&&◌, ◌||◌, cond, ◌==◌, nat_lt, List, [], ◌∷◌, map, filter, length, Option, Some, None, is_some, MatchBool, refl, sym, ap, subst, ◌∙◌, ⊎_elim, arith}
 use Rattle.std.specs.List.{list_any, list_all, enumerate_from}
-use Rattle.std.proofs.lemmas.Bool.Decides.{nat_tests}
-use Rattle.std.proofs.lemmas.Bool.{false≢true, true≢false, both_ways, and_parts, and_from, or_right, lt-ltb}
+use Rattle.std.proofs.lemmas.Bool.{false≢true, true≢false, and_parts, and_from, lt-ltb}
 use Rattle.s2_value.specs.declared.schemas.Schema.{Schema}
 use Rattle.s2_model.specs.declared.entries.Entry.{Entry}
 use Rattle.s2_model.specs.declared.entries.What.{What}
 use Rattle.s2_model.specs.declared.entries.What.TheVariants as entry
-use Rattle.s2_model.specs.declared.replies.Refusal.{Refusal}
 use Rattle.s2_model.specs.declared.replies.Refusal.TheVariants.{LogFull, ReadFault, Damaged, Unreadable}
 use Rattle.s2_model.specs.declared.replies.Reply.{Reply}
 use Rattle.s2_model.specs.declared.replies.Reply.TheVariants.{Refused, Late, Flushed, Uploaded, Evicted, Vacuumed}
@@ -18,12 +16,12 @@ use Rattle.s2_model.specs.Table.{Table}
 use Rattle.s2_model.specs.History.{History, ◌▷◌, upto, pin_of}
 use Rattle.s2_model.specs.Placement.{Segment, placement, contains_number}
 use Rattle.s2_model.specs.Plan.{takes, can_take, plan, row_ids}
-use Rattle.s2_model.specs.Fits.{FitsAs, FlushFits, MergeFits, may_make, offsets_where, are_in_use, is_unstored, droppable, next_segment, last_segment, least_needed}
-use Rattle.s2_model.specs.Needed.{FaultsBy, NamesMissing, needed, counts_as_evicted, is_missing, is_evicted, is_evicted_in_pin, evicts, unpins_after, may_load}
-use Rattle.s2_model.specs.Background.{Answers, WorksAs, FlushEnds, FlushesFrom, MergeEnds, MergeWrites, MergesFrom, MergesAt, UploadEnds, UploadFaults, UploadsFrom, is_full, is_none_left, is_flush_at, flush_rows_at, flush_note, merge_pieces, merge_note, merge_news, first_dead, first_unstored, evict_whats, most_segments}
-use Rattle.s2_model.specs.BackgroundLaws.{FaultsStay, worker_of, JobBegan, MadeFits, BackgroundEntriesFit}
+use Rattle.s2_model.specs.Fits.{FitsAs, may_make, are_in_use, is_unstored, droppable, next_segment, last_segment, least_needed}
+use Rattle.s2_model.specs.Needed.{NamesMissing, needed, counts_as_evicted, is_missing, is_evicted, is_evicted_in_pin, evicts, unpins_after, may_load}
+use Rattle.s2_model.specs.Background.{Answers, FlushEnds, MergeEnds, MergeWrites, UploadEnds, is_full, is_none_left, is_flush_at, flush_rows_at, flush_note, merge_pieces, merge_note, first_dead, evict_whats, most_segments}
+use Rattle.s2_model.specs.BackgroundLaws.{FaultsStay, MadeFits, BackgroundEntriesFit}
 use Rattle.s2_model.proofs.Timestamps.{upto_past}
-use Rattle.s2_model.proofs.Lists.{Each, any_weaker}
+use Rattle.s2_model.proofs.Lists.{any_weaker}
 
 -- faults
 
@@ -32,12 +30,13 @@ missing_stays : (schema : Schema) (options : Options) (whole : History) (e : Ent
 missing_stays schema options whole e r k base s le n m =
     let both = and_parts (contains_number (needed schema options (upto r whole) k base s) n) (counts_as_evicted whole r k n) m in
     and_from _ _ (ap (λ G. contains_number (needed schema options G k base s) n) (upto_past r whole e le) ∙ both.0)
-        (ap (λ G. cond (is_some (pin_of G k)) (is_evicted_in_pin r k (whole ▷ e) n) (is_evicted G n)) (upto_past r whole e le)
-        ∙ go (is_some (pin_of (upto r whole) k)) both.1)
+    (ap (λ G. cond (is_some (pin_of G k)) (is_evicted_in_pin r k (whole ▷ e) n) (is_evicted G n)) (upto_past r whole e le)
+    ∙ go (is_some (pin_of (upto r whole) k)) both.1)
   where
     last : (a b : Bool) → b ≡ true → (a || b) ≡ true
     last true b f = refl
     last false b f = f
+
     go : (b : Bool) → cond b (is_evicted_in_pin r k whole n) (is_evicted (upto r whole) n) ≡ true
         → cond b (is_evicted_in_pin r k (whole ▷ e) n) (is_evicted (upto r whole) n) ≡ true
     go true f = last (evicts e.what n && not (unpins_after r k whole)) (is_evicted_in_pin r k whole n) f
@@ -48,15 +47,16 @@ names_stay : (schema : Schema) (options : Options) (whole : History) (e : Entry)
 names_stay schema options whole e r k base s (Refused (ReadFault count)) le f =
     ap (λ G. list_any (is_missing schema options (whole ▷ e) r k base s) (needed schema options G k base s)) (upto_past r whole e le)
     ∙ any_weaker (is_missing schema options whole r k base s) (is_missing schema options (whole ▷ e) r k base s)
-        (missing_stays schema options whole e r k base s le) (needed schema options (upto r whole) k base s) f
+    (missing_stays schema options whole e r k base s le) (needed schema options (upto r whole) k base s) f
 names_stay schema options whole e r k base s (Refused (Damaged seg kept found)) le f = (missing_stays schema options whole e r k base s le seg f.0, f.1)
 names_stay schema options whole e r k base s (Refused (Unreadable seg)) le f = missing_stays schema options whole e r k base s le seg f
 names_stay schema options whole e r k base s _ le f = absurd f
 
 pub faults_stay : FaultsStay
 faults_stay schema options whole e r k base s reply le f = record {
-    may = ap (λ G. may_load G k s) (upto_past r whole e le) ∙ f.may;
-    names = names_stay schema options whole e r k base s reply le f.names }
+  may = ap (λ G. may_load G k s) (upto_past r whole e le) ∙ f.may;
+  names = names_stay schema options whole e r k base s reply le f.names;
+}
 
 -- what is made
 
@@ -99,11 +99,18 @@ flush_made schema options H k b said made by le begins ends =
         → MatchBool c (Answers (Late b) [] said made) (Answers (Flushed (next_segment H)) (entry.Flush (flush_note schema options H b) ∷ []) said made) → MadeFits schema options H k made
     late true e f = none_made schema options H k made f.1
     late false e f = one_made schema options H k made (entry.Flush (flush_note schema options H b)) f.1 (record {
-        by = by; number = refl; base = le; some = some_rows_left (takes schema options (upto b H)) begins; rows = refl; marks = refl;
-        not_all = lt-ltb _ _ (offsets_fewer (λ n. not (can_take b H n)) 0 (flush_rows_at schema options H b) e) })
+      by = by;
+      number = refl;
+      base = le;
+      some = some_rows_left (takes schema options (upto b H)) begins;
+      rows = refl;
+      marks = refl;
+      not_all = lt-ltb _ _ (offsets_fewer (λ n. not (can_take b H n)) 0 (flush_rows_at schema options H b) e);
+    })
+
     full : (c : Bool) → MatchBool c (Answers (Refused LogFull) [] said made)
         (MatchBool (list_all (λ n. not (can_take b H n)) (flush_rows_at schema options H b)) (Answers (Late b) [] said made)
-            (Answers (Flushed (next_segment H)) (entry.Flush (flush_note schema options H b) ∷ []) said made)) → MadeFits schema options H k made
+        (Answers (Flushed (next_segment H)) (entry.Flush (flush_note schema options H b) ∷ []) said made)) → MadeFits schema options H k made
     full true f = none_made schema options H k made f.1
     full false f = late (list_all (λ n. not (can_take b H n)) (flush_rows_at schema options H b)) refl f
 
@@ -124,7 +131,14 @@ merge_made schema options H k b olds said made by le begins ends =
     alive : (o : Option ℕ) → first_dead (placement H).segments olds ≡ o → MergeWrites schema options H b olds o said made → MadeFits schema options H k made
     alive (Some seg) e f = none_made schema options H k made f.1
     alive None e f = one_made schema options H k made (entry.Merge (merge_note schema options H b olds)) f.1 (record {
-        by = by; base = le; olds = begins; alive = none_dead (placement H).segments olds e; news = refl; marks = refl })
+      by = by;
+      base = le;
+      olds = begins;
+      alive = none_dead (placement H).segments olds e;
+      news = refl;
+      marks = refl;
+    })
+
     full : (c : Bool) → MatchBool c (Answers (Refused LogFull) [] said made) (MergeWrites schema options H b olds (first_dead (placement H).segments olds) said made)
         → MadeFits schema options H k made
     full true f = none_made schema options H k made f.1
@@ -138,6 +152,7 @@ upload_made schema options H k number said made by ends = full (is_full H) ends
         → MatchBool c (Answers (Uploaded number) (entry.Upload number ∷ []) said made) (Answers (Late number) [] said made) → MadeFits schema options H k made
     unstored true e f = one_made schema options H k made (entry.Upload number) f.1 (record { by = by; unstored = e })
     unstored false e f = none_made schema options H k made f.1
+
     full : (c : Bool) → MatchBool c (Answers (Refused LogFull) [] said made)
         (MatchBool (is_unstored (placement H).segments number) (Answers (Uploaded number) (entry.Upload number ∷ []) said made) (Answers (Late number) [] said made))
         → MadeFits schema options H k made
@@ -146,13 +161,14 @@ upload_made schema options H k number said made by ends = full (is_full H) ends
 
 evict_made : (schema : Schema) (options : Options) (H : History) (k : ℕ) (said : Reply) (made : List What) → may_make 19 H k ≡ true
     → MatchBool (is_full H) (Answers (Refused LogFull) [] said made)
-        (Answers (Evicted (length (droppable (placement H).segments))) (evict_whats (droppable (placement H).segments)) said made)
+    (Answers (Evicted (length (droppable (placement H).segments))) (evict_whats (droppable (placement H).segments)) said made)
     → MadeFits schema options H k made
 evict_made schema options H k said made by ends = full (is_full H) ends
   where
     some : (ns : List ℕ) → ns ≡ droppable (placement H).segments → made ≡ evict_whats ns → MadeFits schema options H k made
     some [] e f = none_made schema options H k made f
     some (n ∷ ns) e f = one_made schema options H k made (entry.Evict (n ∷ ns)) f (record { by = by; some = lt-ltb 0 (suc (length ns)) (omega arith); all = e })
+
     full : (c : Bool) → MatchBool c (Answers (Refused LogFull) [] said made)
         (Answers (Evicted (length (droppable (placement H).segments))) (evict_whats (droppable (placement H).segments)) said made) → MadeFits schema options H k made
     full true f = none_made schema options H k made f.1
@@ -181,7 +197,7 @@ background_entries_fit schema options H k floor job is_set stmt.Merge said made 
     ⊎_elim (λ none. none_made schema options H k made none.2) (λ g. merge_made schema options H k g.base g.olds said made by g.until g.begins g.ends) f
 background_entries_fit schema options H k floor job is_set stmt.Upload said made by began f =
     ⊎_elim (λ none. none_made schema options H k made none.2)
-        (λ g. ⊎_elim (λ fault. none_made schema options H k made fault.says.1) (λ u. upload_made schema options H k u.number said made by u.ends) g) f
+    (λ g. ⊎_elim (λ fault. none_made schema options H k made fault.says.1) (λ u. upload_made schema options H k u.number said made by u.ends) g) f
 background_entries_fit schema options H k floor job is_set stmt.Evict said made by began f = evict_made schema options H k said made by f
 background_entries_fit schema options H k floor job is_set stmt.Vacuum said made by began f = vacuum_made schema options H k said made by f
 background_entries_fit schema options H k floor job is_set (stmt.Mark n) said made by began f = none_made schema options H k made f.1

@@ -1,22 +1,19 @@
 -- The segments of a history whose entries fit have files: their rows are in file order, and their numbers rise.
-use Rattle.std.proofs.Common.{◌≡◌, ℕ, zero, suc, ◌+◌, ◌<◌, ◌≤◌, Bool, true, false, not, ◌&&◌, ◌||◌, cond, ◌==◌, nat_lt, nat_le, List, [], ◌∷◌, ◌++◌, map, filter, filter_map, take, drop, length, option_map, Option, Some, None, is_some, Ordering, Less, Equal, Greater, nat_cmp, is_lt, refl, sym, ap, ap₂, subst, ◌∙◌, ⊎_elim, arith}
-use Rattle.std.specs.List.{list_any, list_all, cons_option, enumerate_from}
+use Rattle.std.proofs.Common.{◌≡◌, ℕ, zero, suc, ◌<◌, ◌≤◌, Bool, true, false, not, ◌||◌, cond, ◌==◌, nat_lt, List, [], ◌∷◌, map, filter, take, drop, length, option_map, Some, is_some, Ordering, Less, Equal, Greater, nat_cmp, is_lt, refl, sym, ap, ap₂, ◌∙◌, arith}
+use Rattle.std.specs.List.{cons_option}
 use Rattle.std.specs.Ordering.{ordering_then, ordering_reverse}
 use Rattle.std.proofs.lemmas.List.{take-map, drop-map}
 use Rattle.std.proofs.lemmas.Bool.Decides.{nat_tests}
-use Rattle.std.proofs.lemmas.Bool.{false≢true, true≢false, both_ways, and_parts, and_from, eqb-true, eqb-false, eq-eqb, ne_eqb, cond-true, cond-false, cases_lt, leb-true, ltb-true, lt-ltb}
+use Rattle.std.proofs.lemmas.Bool.{false≢true, true≢false, and_parts, and_from, eqb-false, eq-eqb, ne_eqb, cond-true, cond-false}
 use Rattle.s2_value.specs.declared.schemas.Schema.{Schema}
-use Rattle.s2_value.specs.declared.values.Value.{Value}
 use Rattle.s2_value.specs.Order.{row_cmp, row_cmp_total}
 use Rattle.s2_value.specs.Columns.{has_place, are_distinct}
 use Rattle.s2_value.specs.Rows.{key_of}
-use Rattle.s2_model.specs.declared.scripts.Options.{Options}
-use Rattle.s2_model.specs.Table.{Table, RowOf, row_at, rises_above, IsTable}
-use Rattle.s2_model.specs.History.{History, ◌▷◌, upto, state}
-use Rattle.s2_model.specs.Placement.{Spot, rows_by}
+use Rattle.s2_model.specs.Table.{Table, RowOf, row_at, rises_above}
+use Rattle.s2_model.specs.Placement.{rows_by}
 use Rattle.s2_model.specs.Plan.{file_order, into_file_order, stands_before, row_ids, cut, cut_times}
 use Rattle.s2_model.specs.Laws.{in_order_from, is_in_file_order}
-use Rattle.s2_model.proofs.Lists.{Each, each-filter, each-take, each_weaker, each_all}
+use Rattle.s2_model.proofs.Lists.{Each, each-filter, each-take, each_weaker}
 use Rattle.s2_model.proofs.Tables.{above_low}
 
 -- rows of a table
@@ -31,10 +28,11 @@ in_longer q table p other e = cond-false (q.0 == p.0) (Some q.1) (row_at table p
 pub table_rows : (low : ℕ) (table : Table) → rises_above low table ≡ true → Each (InTable table) table
 table_rows low [] up = tt
 table_rows low (p ∷ table) up =
-    let later : rises_above p.0 table ≡ true = rest (nat_lt low p.0) (rises_above p.0 table) up in
-    (cond-true (p.0 == p.0) (Some p.1) (row_at table p.0) (eq-eqb p.0 p.0 refl),
-     each_weaker (InTable table) (InTable (p ∷ table))
-        (λ r e. in_longer p table r (λ same. omega (arith, above_low p.0 table r.0 later (ap is_some e))) e) table (table_rows p.0 table later))
+    let later : rises_above p.0 table ≡ true = rest (nat_lt low p.0) (rises_above p.0 table) up in (
+      cond-true (p.0 == p.0) (Some p.1) (row_at table p.0) (eq-eqb p.0 p.0 refl),
+      each_weaker (InTable table) (InTable (p ∷ table))
+          (λ r e. in_longer p table r (λ same. omega (arith, above_low p.0 table r.0 later (ap is_some e))) e) table (table_rows p.0 table later),
+    )
   where
     rest : (a b : Bool) → cond a b false ≡ true → b ≡ true
     rest true b e = e
@@ -59,9 +57,10 @@ IsApart (p ∷ rows) = Each (Other p) rows × IsApart rows
 pub table_apart : (low : ℕ) (table : Table) → rises_above low table ≡ true → IsApart table
 table_apart low [] up = tt
 table_apart low (p ∷ table) up =
-    let later : rises_above p.0 table ≡ true = rest (nat_lt low p.0) (rises_above p.0 table) up in
-    (each_weaker (InTable table) (Other p) (λ r e. ne_eqb p.0 r.0 (λ same. omega (arith, above_low p.0 table r.0 later (ap is_some e)))) table (table_rows p.0 table later),
-     table_apart p.0 table later)
+    let later : rises_above p.0 table ≡ true = rest (nat_lt low p.0) (rises_above p.0 table) up in (
+      each_weaker (InTable table) (Other p) (λ r e. ne_eqb p.0 r.0 (λ same. omega (arith, above_low p.0 table r.0 later (ap is_some e)))) table (table_rows p.0 table later),
+      table_apart p.0 table later,
+    )
   where
     rest : (a b : Bool) → cond a b false ≡ true → b ≡ true
     rest true b e = e
@@ -103,10 +102,13 @@ stands_after schema p q other e =
   where
     turned : row_cmp (key_of schema.sort p.1) (key_of schema.sort q.1) ≡ ordering_reverse (row_cmp (key_of schema.sort q.1) (key_of schema.sort p.1))
     turned = row_cmp_total.antisymm (key_of schema.sort p.1) (key_of schema.sort q.1)
+
     first : (o : Ordering) → row_cmp (key_of schema.sort q.1) (key_of schema.sort p.1) ≡ o → is_lt (ordering_then (ordering_reverse o) (nat_cmp p.0 q.0)) ≡ false
     first o f = sym (ap (λ c. is_lt (ordering_then c (nat_cmp p.0 q.0))) (turned ∙ ap ordering_reverse f)) ∙ e
+
     numbers : is_lt (nat_cmp p.0 q.0) ≡ false → is_lt (nat_cmp q.0 p.0) ≡ true
     numbers f = grind (arith, nat_tests)
+
     go : (o : Ordering) → row_cmp (key_of schema.sort q.1) (key_of schema.sort p.1) ≡ o
         → is_lt (ordering_then (row_cmp (key_of schema.sort q.1) (key_of schema.sort p.1)) (nat_cmp q.0 p.0)) ≡ true
     go Less f = ap (λ c. is_lt (ordering_then c (nat_cmp q.0 p.0))) f
@@ -121,6 +123,7 @@ order_into schema q p (r ∷ rows) before order apart =
   where
     both : (stands_before schema q r ≡ true) × (in_order_from schema r rows ≡ true)
     both = and_parts (stands_before schema q r) (in_order_from schema r rows) order
+
     go : (b : Bool) → stands_before schema p r ≡ b → (stands_before schema r p ≡ true → in_order_from schema r (into_file_order schema p rows) ≡ true)
         → in_order_from schema q (cond b (p ∷ r ∷ rows) (r ∷ into_file_order schema p rows)) ≡ true
     go true e later = and_from _ _ before (and_from _ _ e both.1)
@@ -221,14 +224,16 @@ pub cut_pieces : (schema : Schema) (table : Table) (times size : ℕ) (rows : Ta
     → Each (IsPiece schema table size) (cut_times times size rows)
 cut_pieces schema table times size [] pos each order apart = tt
 cut_pieces schema table zero size (p ∷ rows) pos each order apart = tt
-cut_pieces schema table (suc times) size (p ∷ rows) pos each order apart =
-    (record {
-        in_table = each-take (InTable table) size (p ∷ rows) each;
-        order = is_order_take schema size (p ∷ rows) order;
-        apart = apart-take size (p ∷ rows) apart;
-        some = first size pos;
-        most = length_take size (p ∷ rows) },
-     cut_pieces schema table times size (drop size (p ∷ rows)) pos (each_drop (InTable table) size (p ∷ rows) each) (is_order_drop schema size (p ∷ rows) order) (apart-drop size (p ∷ rows) apart))
+cut_pieces schema table (suc times) size (p ∷ rows) pos each order apart = (
+  record {
+    in_table = each-take (InTable table) size (p ∷ rows) each;
+    order = is_order_take schema size (p ∷ rows) order;
+    apart = apart-take size (p ∷ rows) apart;
+    some = first size pos;
+    most = length_take size (p ∷ rows);
+  },
+  cut_pieces schema table times size (drop size (p ∷ rows)) pos (each_drop (InTable table) size (p ∷ rows) each) (is_order_drop schema size (p ∷ rows) order) (apart-drop size (p ∷ rows) apart),
+)
   where
     first : (k : ℕ) → 0 < k → 1 ≤ length (take k (p ∷ rows))
     first zero f = absurd (omega arith)
@@ -240,7 +245,7 @@ cut_ids times size [] = refl
 cut_ids zero size (p ∷ rows) = refl
 cut_ids (suc times) size (p ∷ rows) =
     ap₂ ◌∷◌ (take-map (λ r. r.0) size (p ∷ rows))
-        (ap (cut_times times size) (drop-map (λ r. r.0) size (p ∷ rows)) ∙ cut_ids times size (drop size (p ∷ rows)))
+    (ap (cut_times times size) (drop-map (λ r. r.0) size (p ∷ rows)) ∙ cut_ids times size (drop size (p ∷ rows)))
 
 pub cut_row_ids : (size : ℕ) (rows : Table) → cut size (row_ids rows) ≡ map row_ids (cut size rows)
 cut_row_ids size rows = ap (λ n. cut_times n size (row_ids rows)) (length_ids rows) ∙ cut_ids (length rows) size rows

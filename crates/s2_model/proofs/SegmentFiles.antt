@@ -1,7 +1,5 @@
 -- The segments of a history whose entries fit have files, and their numbers rise.
-use Rattle.std.proofs.Common.{◌≡◌, ℕ, zero, suc, ◌+◌, ◌<◌, ◌≤◌, Bool, true, false, not, ◌&&◌, ◌||◌, cond, ◌==◌, nat_lt, nat_le, List, [], ◌∷◌, ◌++◌, map, filter, take, drop, length, Option, Some, None, is_some, refl, sym, ap, ap₂, subst, ◌∙◌, ⊎_elim, arith}
-use Rattle.std.specs.List.{enumerate_from}
-use Rattle.std.proofs.lemmas.Bool.Decides.{nat_tests}
+use Rattle.std.proofs.Common.{◌≡◌, ℕ, zero, suc, ◌+◌, ◌<◌, ◌≤◌, Bool, true, false, not, cond, ◌==◌, nat_lt, List, [], ◌∷◌, ◌++◌, map, filter, take, length, is_some, refl, sym, ap, ap₂, subst, ◌∙◌, ⊎_elim, arith}
 use Rattle.std.proofs.lemmas.Bool.{and_parts, and_from, lt-ltb, ltb-true, cases_lt}
 use Rattle.s2_value.specs.declared.schemas.Schema.{Schema}
 use Rattle.s2_model.specs.declared.entries.Entry.{Entry}
@@ -10,12 +8,12 @@ use Rattle.s2_model.specs.declared.entries.MergeNote.{MergeNote}
 use Rattle.s2_model.specs.declared.entries.What.{What}
 use Rattle.s2_model.specs.declared.entries.What.TheVariants.{Begin, Write, Commit, Rollback, Pin, Unpin, Move, Flush, Merge, Upload, Evict, Vacuum}
 use Rattle.s2_model.specs.declared.scripts.Options.{Options}
-use Rattle.s2_model.specs.Table.{Table, RowOf, row_at}
+use Rattle.s2_model.specs.Table.{Table}
 use Rattle.s2_model.specs.History.{History, ◌▷◌, upto, state, greatest, next}
-use Rattle.s2_model.specs.Placement.{Spot, Segment, Placement, placement, is_done, set_mark, mark_spots, mark_segment, contains_place, contains_number, new_spots, new_segment, flushed_segment, merged_segments, end_segment, store_segment, drop_file, spot_ids, rows_by}
-use Rattle.s2_model.specs.Plan.{takes, writes, is_takeable, rests_in, file_order, row_ids, cut, numbered}
+use Rattle.s2_model.specs.Placement.{Spot, Segment, placement, is_done, set_mark, mark_spots, mark_segment, contains_place, contains_number, new_spots, new_segment, flushed_segment, merged_segments, end_segment, store_segment, drop_file, spot_ids, rows_by}
+use Rattle.s2_model.specs.Plan.{takes, writes, is_takeable, rests_in, row_ids, cut, numbered}
 use Rattle.s2_model.specs.Fits.{FitsAs, AllFit, FlushFits, MergeFits, last_segment, next_segment, rise_from}
-use Rattle.s2_model.specs.Laws.{IsFile, SegmentsHaveFiles, SegmentsAreFiles, is_in_file_order}
+use Rattle.s2_model.specs.Laws.{IsFile, SegmentsAreFiles, is_in_file_order}
 use Rattle.s2_model.proofs.Timestamps.{upto_all, upto_past}
 use Rattle.s2_model.proofs.Tables.{above_low}
 use Rattle.s2_model.proofs.WriteStep.{max_stays}
@@ -46,30 +44,32 @@ greatest_since : (H : History) (b : ℕ) → b ≤ length H → greatest (upto b
 greatest_since [] b le = omega arith
 greatest_since (H ▷ e) b le =
     ⊎_elim (λ lt. omega (arith, ap greatest (upto_all b (H ▷ e) lt)))
-        (λ past. omega (arith, ap greatest (upto_past b H e past), greatest_since H b past, greatest_rises H e.actor e.what))
-        (cases_lt (length H) b)
+    (λ past. omega (arith, ap greatest (upto_past b H e past), greatest_since H b past, greatest_rises H e.actor e.what))
+    (cases_lt (length H) b)
 
 file_longer : (schema : Schema) (options : Options) (H : History) (e : Entry) (b : ℕ) (ids : List ℕ) → b ≤ length H → IsFile schema options H b ids → IsFile schema options (H ▷ e) b ids
 file_longer schema options H e b ids le f = record {
-    rows = ap (λ G. row_ids (rows_by (state G) ids)) (upto_past b H e le) ∙ f.rows;
-    order = ap (λ G. is_in_file_order schema (rows_by (state G) ids)) (upto_past b H e le) ∙ f.order;
-    distinct = f.distinct;
-    from = f.from;
-    below = each_weaker (λ n. n < next H) (λ n. n < next (H ▷ e)) (λ n lt. omega (arith, greatest_rises H e.actor e.what)) ids f.below;
-    some = f.some;
-    most = f.most }
+  rows = ap (λ G. row_ids (rows_by (state G) ids)) (upto_past b H e le) ∙ f.rows;
+  order = ap (λ G. is_in_file_order schema (rows_by (state G) ids)) (upto_past b H e le) ∙ f.order;
+  distinct = f.distinct;
+  from = f.from;
+  below = each_weaker (λ n. n < next H) (λ n. n < next (H ▷ e)) (λ n lt. omega (arith, greatest_rises H e.actor e.what)) ids f.below;
+  some = f.some;
+  most = f.most;
+}
 
 piece_file : (schema : Schema) (options : Options) (H : History) (b : ℕ) (rows : Table) → b ≤ length H → IsSound (upto b H)
     → IsPiece schema (state (upto b H)) options.segment_rows rows → IsFile schema options H b (row_ids rows)
 piece_file schema options H b rows le s p = record {
-    rows = ap row_ids (rows_by_ids (state (upto b H)) rows p.in_table);
-    order = ap (is_in_file_order schema) (rows_by_ids (state (upto b H)) rows p.in_table) ∙ p.order;
-    distinct = apart_ids rows p.apart;
-    from = each-map (InTable (state (upto b H))) (λ n. 1 ≤ n) (λ r. r.0) (λ r e. above_low 0 (state (upto b H)) r.0 s.held.rising (ap is_some e)) rows p.in_table;
-    below = each-map (InTable (state (upto b H))) (λ n. n < next H) (λ r. r.0)
-        (λ r e. omega (arith, s.held.rows_below r.0 (ap is_some e), greatest_since H b le)) rows p.in_table;
-    some = omega (arith, length_ids rows, p.some);
-    most = omega (arith, length_ids rows, p.most) }
+  rows = ap row_ids (rows_by_ids (state (upto b H)) rows p.in_table);
+  order = ap (is_in_file_order schema) (rows_by_ids (state (upto b H)) rows p.in_table) ∙ p.order;
+  distinct = apart_ids rows p.apart;
+  from = each-map (InTable (state (upto b H))) (λ n. 1 ≤ n) (λ r. r.0) (λ r e. above_low 0 (state (upto b H)) r.0 s.held.rising (ap is_some e)) rows p.in_table;
+  below = each-map (InTable (state (upto b H))) (λ n. n < next H) (λ r. r.0)
+      (λ r e. omega (arith, s.held.rows_below r.0 (ap is_some e), greatest_since H b le)) rows p.in_table;
+  some = omega (arith, length_ids rows, p.some);
+  most = omega (arith, length_ids rows, p.most);
+}
 
 -- what changes neither base nor row numbers
 
@@ -80,13 +80,13 @@ files_longer : (schema : Schema) (options : Options) (H : History) (e : Entry) (
     → Files schema options H segments → Files schema options (H ▷ e) segments
 files_longer schema options H e segments by files =
     each_both (SegmentBy (length H)) (λ s. IsFile schema options H s.base (spot_ids s.spots)) (λ s. IsFile schema options (H ▷ e) s.base (spot_ids s.spots))
-        (λ s b f. file_longer schema options H e s.base (spot_ids s.spots) (omega (arith, b.base, b.born)) f) segments by files
+    (λ s b f. file_longer schema options H e s.base (spot_ids s.spots) (omega (arith, b.base, b.born)) f) segments by files
 
 files-map : (schema : Schema) (options : Options) (H : History) (h : Segment → Segment) → ((s : Segment) → (h s).base ≡ s.base)
     → ((s : Segment) → spot_ids (h s).spots ≡ spot_ids s.spots) → (segments : List Segment) → Files schema options H segments → Files schema options H (map h segments)
 files-map schema options H h base ids segments files =
     each-map (λ s. IsFile schema options H s.base (spot_ids s.spots)) (λ s. IsFile schema options H s.base (spot_ids s.spots)) h
-        (λ s f. subst (λ b. IsFile schema options H b (spot_ids (h s).spots)) (sym (base s)) (subst (IsFile schema options H s.base) (sym (ids s)) f)) segments files
+    (λ s f. subst (λ b. IsFile schema options H b (spot_ids (h s).spots)) (sym (base s)) (subst (IsFile schema options H s.base) (sym (ids s)) f)) segments files
 
 marked_ids : (t : ℕ) (test : ℕ → Bool) (o : ℕ) (spots : List Spot) → spot_ids (mark_spots t test o spots) ≡ spot_ids spots
 marked_ids t test o [] = refl
@@ -119,6 +119,7 @@ rise-filter low f (s ∷ segments) e =
   where
     both : (nat_lt low s.number ≡ true) × (rise_from s.number (numbers_of segments) ≡ true)
     both = and_parts (nat_lt low s.number) (rise_from s.number (numbers_of segments)) e
+
     go : (b : Bool) → rise_from s.number (numbers_of (filter f segments)) ≡ true → rise_from low (numbers_of (cond b (s ∷ filter f segments) (filter f segments))) ≡ true
     go true later = and_from _ _ both.0 later
     go false later = rise_lower low s.number (numbers_of (filter f segments)) (omega (arith, ltb-true low s.number both.0)) later
@@ -156,27 +157,33 @@ taken_rows options G = take options.segment_rows (filter (λ p. is_takeable G p.
 
 taken_piece : (schema : Schema) (options : Options) (G : History) → IsSound G → 1 ≤ length (takes schema options G) → IsPiece schema (state G) options.segment_rows (takes schema options G)
 taken_piece schema options G s some = record {
-    in_table = each-file_order (InTable (state G)) schema (taken_rows options G)
-        (each-take (InTable (state G)) options.segment_rows (filter (λ p. is_takeable G p.0) (state G))
-            (each-filter (InTable (state G)) (λ p. is_takeable G p.0) (state G) (table_rows 0 (state G) s.held.rising)));
-    order = file_order_rises schema (taken_rows options G)
-        (apart-take options.segment_rows (filter (λ p. is_takeable G p.0) (state G)) (apart-filter (λ p. is_takeable G p.0) (state G) (table_apart 0 (state G) s.held.rising)));
-    apart = apart-file_order schema (taken_rows options G)
-        (apart-take options.segment_rows (filter (λ p. is_takeable G p.0) (state G)) (apart-filter (λ p. is_takeable G p.0) (state G) (table_apart 0 (state G) s.held.rising)));
-    some = some;
-    most = omega (arith, length_total (takes schema options G), total-file_order (λ p. 1) schema (taken_rows options G), length_total (taken_rows options G),
-        length_take options.segment_rows (filter (λ p. is_takeable G p.0) (state G))) }
+  in_table = each-file_order (InTable (state G)) schema (taken_rows options G)
+      (each-take (InTable (state G)) options.segment_rows (filter (λ p. is_takeable G p.0) (state G))
+      (each-filter (InTable (state G)) (λ p. is_takeable G p.0) (state G) (table_rows 0 (state G) s.held.rising)));
+  order = file_order_rises schema (taken_rows options G)
+      (apart-take options.segment_rows (filter (λ p. is_takeable G p.0) (state G)) (apart-filter (λ p. is_takeable G p.0) (state G) (table_apart 0 (state G) s.held.rising)));
+  apart = apart-file_order schema (taken_rows options G)
+      (apart-take options.segment_rows (filter (λ p. is_takeable G p.0) (state G)) (apart-filter (λ p. is_takeable G p.0) (state G) (table_apart 0 (state G) s.held.rising)));
+  some = some;
+  most = omega (
+    arith,
+    length_total (takes schema options G),
+    total-file_order (λ p. 1) schema (taken_rows options G),
+    length_total (taken_rows options G),
+    length_take options.segment_rows (filter (λ p. is_takeable G p.0) (state G)),
+  );
+}
 
 written_pieces : (schema : Schema) (options : Options) (G : History) (olds : List ℕ) → IsSound G
     → Each (IsPiece schema (state G) options.segment_rows) (cut options.segment_rows (writes schema olds G))
 written_pieces schema options G olds s =
     cut_pieces schema (state G) (length (writes schema olds G)) options.segment_rows (writes schema olds G) (some_rows options)
-        (each-file_order (InTable (state G)) schema (filter (λ p. rests_in olds (placement G).segments p.0) (state G))
-            (each-filter (InTable (state G)) (λ p. rests_in olds (placement G).segments p.0) (state G) (table_rows 0 (state G) s.held.rising)))
-        (file_order_rises schema (filter (λ p. rests_in olds (placement G).segments p.0) (state G))
-            (apart-filter (λ p. rests_in olds (placement G).segments p.0) (state G) (table_apart 0 (state G) s.held.rising)))
-        (apart-file_order schema (filter (λ p. rests_in olds (placement G).segments p.0) (state G))
-            (apart-filter (λ p. rests_in olds (placement G).segments p.0) (state G) (table_apart 0 (state G) s.held.rising)))
+    (each-file_order (InTable (state G)) schema (filter (λ p. rests_in olds (placement G).segments p.0) (state G))
+    (each-filter (InTable (state G)) (λ p. rests_in olds (placement G).segments p.0) (state G) (table_rows 0 (state G) s.held.rising)))
+    (file_order_rises schema (filter (λ p. rests_in olds (placement G).segments p.0) (state G))
+    (apart-filter (λ p. rests_in olds (placement G).segments p.0) (state G) (table_apart 0 (state G) s.held.rising)))
+    (apart-file_order schema (filter (λ p. rests_in olds (placement G).segments p.0) (state G))
+    (apart-filter (λ p. rests_in olds (placement G).segments p.0) (state G) (table_apart 0 (state G) s.held.rising)))
 
 -- one entry
 
@@ -188,23 +195,27 @@ mapped : (schema : Schema) (options : Options) (H : History) (h : Segment → Se
     → ((s : Segment) → spot_ids (h s).spots ≡ spot_ids s.spots) → ((s : Segment) → (h s).number ≡ s.number) → (segments : List Segment)
     → Step schema options H segments → Step schema options H (map h segments)
 mapped schema options H h base ids number segments s = record {
-    files = files-map schema options H h base ids segments s.files;
-    rising = ap (rise_from 0) (numbers-map h number segments) ∙ s.rising }
+  files = files-map schema options H h base ids segments s.files;
+  rising = ap (rise_from 0) (numbers-map h number segments) ∙ s.rising;
+}
 
 flushed_files : (schema : Schema) (options : Options) (H : History) (k : ℕ) (f : FlushNote) → AllFit schema options H → FlushFits schema options H k f
     → Step schema options (H ▷ entry_of k (Flush f)) (placement H).segments
     → Step schema options (H ▷ entry_of k (Flush f)) ((placement H).segments ++ flushed_segment (suc (length H)) f ∷ [])
 flushed_files schema options H k f fit fits s = record {
-    files = each-append (λ g. IsFile schema options (H ▷ entry_of k (Flush f)) g.base (spot_ids g.spots)) (placement H).segments (flushed_segment (suc (length H)) f ∷ [])
-        s.files
-        (subst (IsFile schema options (H ▷ entry_of k (Flush f)) f.base) (sym (new_ids (suc (length H)) (contains_number f.marked) 0 f.rows))
+  files = each-append (λ g. IsFile schema options (H ▷ entry_of k (Flush f)) g.base (spot_ids g.spots)) (placement H).segments (flushed_segment (suc (length H)) f ∷ [])
+      s.files (
+        subst (IsFile schema options (H ▷ entry_of k (Flush f)) f.base) (sym (new_ids (suc (length H)) (contains_number f.marked) 0 f.rows))
             (subst (IsFile schema options (H ▷ entry_of k (Flush f)) f.base) (sym fits.rows)
-                (file_longer schema options H (entry_of k (Flush f)) f.base (row_ids (takes schema options (upto f.base H))) fits.base
-                    (piece_file schema options H f.base (takes schema options (upto f.base H)) fits.base (sound_at schema options H fit f.base)
-                        (taken_piece schema options (upto f.base H) (sound_at schema options H fit f.base)
-                            (omega (arith, ap length fits.rows, length_ids (takes schema options (upto f.base H)), ltb-true 0 (length f.rows) fits.some)))))), tt);
-    rising = rise-append 0 (last_segment H) (placement H).segments (flushed_segment (suc (length H)) f ∷ []) (omega arith) (sound schema options H fit).placed.named s.rising
-        (and_from _ _ (lt-ltb (last_segment H) f.seg (omega (arith, fits.number))) refl) }
+            (file_longer schema options H (entry_of k (Flush f)) f.base (row_ids (takes schema options (upto f.base H))) fits.base
+            (piece_file schema options H f.base (takes schema options (upto f.base H)) fits.base (sound_at schema options H fit f.base)
+            (taken_piece schema options (upto f.base H) (sound_at schema options H fit f.base)
+            (omega (arith, ap length fits.rows, length_ids (takes schema options (upto f.base H)), ltb-true 0 (length f.rows) fits.some)))))),
+        tt,
+      );
+  rising = rise-append 0 (last_segment H) (placement H).segments (flushed_segment (suc (length H)) f ∷ []) (omega arith) (sound schema options H fit).placed.named s.rising
+      (and_from _ _ (lt-ltb (last_segment H) f.seg (omega (arith, fits.number))) refl);
+}
 
 abbrev dead : ℕ → MergeNote → Segment → Segment
 dead t m s = cond (contains_number m.olds s.number) (end_segment t s) s
@@ -213,38 +224,44 @@ merged_files : (schema : Schema) (options : Options) (H : History) (k : ℕ) (m 
     → Step schema options (H ▷ entry_of k (Merge m)) (placement H).segments
     → Step schema options (H ▷ entry_of k (Merge m)) (map (dead (suc (length H)) m) (placement H).segments ++ merged_segments (suc (length H)) m)
 merged_files schema options H k m fit fits s = record {
-    files = each-append (λ g. IsFile schema options (H ▷ entry_of k (Merge m)) g.base (spot_ids g.spots)) (map (dead (suc (length H)) m) (placement H).segments) (merged_segments (suc (length H)) m)
-        old.files
-        (each-map (λ new. IsFile schema options (H ▷ entry_of k (Merge m)) m.base new.1) (λ g. IsFile schema options (H ▷ entry_of k (Merge m)) g.base (spot_ids g.spots))
-            (λ new. new_segment (suc (length H)) new.0 m.base (new_spots (suc (length H)) (contains_place m.marked new.0) 0 new.1))
-            (λ new f. subst (IsFile schema options (H ▷ entry_of k (Merge m)) m.base) (sym (new_ids (suc (length H)) (contains_place m.marked new.0) 0 new.1)) f) m.news
-            (subst (Each (λ new. IsFile schema options (H ▷ entry_of k (Merge m)) m.base new.1)) (sym (fits.news ∙ ap (numbered (next_segment H)) (cut_row_ids options.segment_rows rows)))
-                (each_numbered (IsFile schema options (H ▷ entry_of k (Merge m)) m.base) (next_segment H) (map row_ids (cut options.segment_rows rows))
-                    (each-map (IsPiece schema (state (upto m.base H)) options.segment_rows) (IsFile schema options (H ▷ entry_of k (Merge m)) m.base) row_ids
-                        (λ piece p. file_longer schema options H (entry_of k (Merge m)) m.base (row_ids piece) fits.base (piece_file schema options H m.base piece fits.base (sound_at schema options H fit m.base) p))
-                        (cut options.segment_rows rows) (written_pieces schema options (upto m.base H) m.olds (sound_at schema options H fit m.base))))));
-    rising = rise-append 0 (last_segment H) (map (dead (suc (length H)) m) (placement H).segments) (merged_segments (suc (length H)) m) (omega arith)
-        (each-map (λ g. g.number ≤ last_segment H) (λ g. g.number ≤ last_segment H) (dead (suc (length H)) m) (λ g le. below g (contains_number m.olds g.number) le)
-            (placement H).segments (sound schema options H fit).placed.named)
-        old.rising
-        (subst (λ news. rise_from (last_segment H) (numbers_of (map (λ new. new_segment (suc (length H)) new.0 m.base (new_spots (suc (length H)) (contains_place m.marked new.0) 0 new.1)) news)) ≡ true)
-            (sym fits.news)
-            (numbered_rise (suc (length H)) m.base (contains_place m.marked) (last_segment H) (cut options.segment_rows (row_ids rows)))) }
+  files = each-append (λ g. IsFile schema options (H ▷ entry_of k (Merge m)) g.base (spot_ids g.spots)) (map (dead (suc (length H)) m) (placement H).segments) (merged_segments (suc (length H)) m)
+      old.files
+      (each-map (λ new. IsFile schema options (H ▷ entry_of k (Merge m)) m.base new.1) (λ g. IsFile schema options (H ▷ entry_of k (Merge m)) g.base (spot_ids g.spots))
+      (λ new. new_segment (suc (length H)) new.0 m.base (new_spots (suc (length H)) (contains_place m.marked new.0) 0 new.1))
+      (λ new f. subst (IsFile schema options (H ▷ entry_of k (Merge m)) m.base) (sym (new_ids (suc (length H)) (contains_place m.marked new.0) 0 new.1)) f) m.news
+      (subst (Each (λ new. IsFile schema options (H ▷ entry_of k (Merge m)) m.base new.1)) (sym (fits.news ∙ ap (numbered (next_segment H)) (cut_row_ids options.segment_rows rows)))
+      (each_numbered (IsFile schema options (H ▷ entry_of k (Merge m)) m.base) (next_segment H) (map row_ids (cut options.segment_rows rows))
+      (each-map (IsPiece schema (state (upto m.base H)) options.segment_rows) (IsFile schema options (H ▷ entry_of k (Merge m)) m.base) row_ids
+      (λ piece p. file_longer schema options H (entry_of k (Merge m)) m.base (row_ids piece) fits.base (piece_file schema options H m.base piece fits.base (sound_at schema options H fit m.base) p))
+      (cut options.segment_rows rows) (written_pieces schema options (upto m.base H) m.olds (sound_at schema options H fit m.base))))));
+  rising = rise-append 0 (last_segment H) (map (dead (suc (length H)) m) (placement H).segments) (merged_segments (suc (length H)) m) (omega arith)
+      (each-map (λ g. g.number ≤ last_segment H) (λ g. g.number ≤ last_segment H) (dead (suc (length H)) m) (λ g le. below g (contains_number m.olds g.number) le)
+      (placement H).segments (sound schema options H fit).placed.named)
+      old.rising
+      (subst (λ news. rise_from (last_segment H) (numbers_of (map (λ new. new_segment (suc (length H)) new.0 m.base (new_spots (suc (length H)) (contains_place m.marked new.0) 0 new.1)) news)) ≡ true)
+      (sym fits.news)
+      (numbered_rise (suc (length H)) m.base (contains_place m.marked) (last_segment H) (cut options.segment_rows (row_ids rows))));
+}
   where
     rows : Table
     rows = writes schema m.olds (upto m.base H)
+
     base : (g : Segment) (c : Bool) → (cond c (end_segment (suc (length H)) g) g).base ≡ g.base
     base g true = refl
     base g false = refl
+
     ids : (g : Segment) (c : Bool) → spot_ids (cond c (end_segment (suc (length H)) g) g).spots ≡ spot_ids g.spots
     ids g true = refl
     ids g false = refl
+
     number : (g : Segment) (c : Bool) → (cond c (end_segment (suc (length H)) g) g).number ≡ g.number
     number g true = refl
     number g false = refl
+
     below : (g : Segment) (c : Bool) → g.number ≤ last_segment H → (cond c (end_segment (suc (length H)) g) g).number ≤ last_segment H
     below g true le = le
     below g false le = le
+
     old : Step schema options (H ▷ entry_of k (Merge m)) (map (dead (suc (length H)) m) (placement H).segments)
     old = mapped schema options (H ▷ entry_of k (Merge m)) (dead (suc (length H)) m) (λ g. base g (contains_number m.olds g.number)) (λ g. ids g (contains_number m.olds g.number))
         (λ g. number g (contains_number m.olds g.number)) (placement H).segments s
@@ -258,9 +275,11 @@ flag_step schema options H test h base ids number segments s =
     bases : (g : Segment) (c : Bool) → (cond c (h g) g).base ≡ g.base
     bases g true = base g
     bases g false = refl
+
     all : (g : Segment) (c : Bool) → spot_ids (cond c (h g) g).spots ≡ spot_ids g.spots
     all g true = ids g
     all g false = refl
+
     numbers : (g : Segment) (c : Bool) → (cond c (h g) g).number ≡ g.number
     numbers g true = number g
     numbers g false = refl
@@ -275,7 +294,7 @@ file_step schema options H k Pin fit f s = s
 file_step schema options H k Unpin fit f s = s
 file_step schema options H k (Move places) fit f s =
     mapped schema options (H ▷ entry_of k (Move places)) (mark_segment (suc (length H)) places) (λ g. refl)
-        (λ g. marked_ids (suc (length H)) (contains_place places g.number) 0 g.spots) (λ g. refl) (placement H).segments s
+    (λ g. marked_ids (suc (length H)) (contains_place places g.number) 0 g.spots) (λ g. refl) (placement H).segments s
 file_step schema options H k (Flush n) fit f s = flushed_files schema options H k n fit f s
 file_step schema options H k (Merge m) fit f s = merged_files schema options H k m fit f s
 file_step schema options H k (Upload number) fit f s =
@@ -283,20 +302,23 @@ file_step schema options H k (Upload number) fit f s =
 file_step schema options H k (Evict numbers) fit f s =
     flag_step schema options (H ▷ entry_of k (Evict numbers)) (λ g. contains_number numbers g.number) drop_file (λ g. refl) (λ g. refl) (λ g. refl) (placement H).segments s
 file_step schema options H k (Vacuum h) fit f s = record {
-    files = each-filter (λ g. IsFile schema options (H ▷ entry_of k (Vacuum h)) g.base (spot_ids g.spots)) (λ g. not (is_done h g.died)) (placement H).segments s.files;
-    rising = rise-filter 0 (λ g. not (is_done h g.died)) (placement H).segments s.rising }
+  files = each-filter (λ g. IsFile schema options (H ▷ entry_of k (Vacuum h)) g.base (spot_ids g.spots)) (λ g. not (is_done h g.died)) (placement H).segments s.files;
+  rising = rise-filter 0 (λ g. not (is_done h g.died)) (placement H).segments s.rising;
+}
 
 files_are : (schema : Schema) (options : Options) (H : History) → AllFit schema options H → Step schema options H (placement H).segments
 files_are schema options [] fit = record { files = tt; rising = refl }
 files_are schema options (H ▷ e) fit =
     let before = files_are schema options H fit.0 in
     file_step schema options H e.actor e.what fit.0 fit.1
-        (record {
-            files = files_longer schema options H e (placement H).segments (sound schema options H fit.0).placed.by.segments before.files;
-            rising = before.rising })
+    (record {
+      files = files_longer schema options H e (placement H).segments (sound schema options H fit.0).placed.by.segments before.files;
+      rising = before.rising;
+    })
 
 pub segments_are_files : SegmentsAreFiles
 segments_are_files schema options H fit = record {
-    files = (files_are schema options H fit).files;
-    rising = (files_are schema options H fit).rising;
-    named = (sound schema options H fit).placed.named }
+  files = (files_are schema options H fit).files;
+  rising = (files_are schema options H fit).rising;
+  named = (sound schema options H fit).placed.named;
+}

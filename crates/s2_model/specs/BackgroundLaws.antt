@@ -1,5 +1,5 @@
 -- Laws on what background statements and failing ports answer.
-use Rattle.std.specs.Prelude.{◌≡◌, ◌≤◌, ℕ, Bool, true, false, List, [], ◌∷◌, Option, Some, None, length, ⊤}
+use Rattle.std.specs.Prelude.{◌≡◌, ◌≤◌, ℕ, Bool, true, List, Option, Some, None, length, ⊤}
 use Rattle.std.specs.List.{AllByRecursion}
 use Rattle.s2_value.specs.declared.schemas.Schema.{Schema}
 use Rattle.s2_model.specs.declared.entries.Entry.{Entry}
@@ -7,7 +7,7 @@ use Rattle.s2_model.specs.declared.entries.What.{What}
 use Rattle.s2_model.specs.declared.replies.Reply.{Reply}
 use Rattle.s2_model.specs.declared.scripts.Options.{Options}
 use Rattle.s2_model.specs.declared.statements.Stmt.{Stmt}
-use Rattle.s2_model.specs.declared.statements.Stmt.TheVariants.{Flush, FlushBegin, FlushEnd, Merge, MergeBegin, MergeEnd, Upload, Evict, Vacuum}
+use Rattle.s2_model.specs.declared.statements.Stmt.TheVariants.{Flush, FlushBegin, FlushEnd, Merge, MergeBegin, MergeEnd, Vacuum}
 use Rattle.s2_model.specs.History.{History, ◌▷◌}
 use Rattle.s2_model.specs.Fits.{FitsAs, may_make}
 use Rattle.s2_model.specs.Needed.{FaultsBy}

@@ -11,6 +11,7 @@ pub mod Laws
 pub mod Legal
 pub mod Limits
 pub mod Needed
+pub mod Notes
 pub mod OutputText
 pub mod Placement
 pub mod Plan
