@@ -21,3 +21,6 @@ pub mod MergeStep
 pub mod Whole
 pub mod Facts
 pub mod WorkedRows
+pub mod FileRows
+pub mod SegmentFiles
+pub mod Background
