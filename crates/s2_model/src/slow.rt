@@ -1,0 +1,6 @@
+//! The slow forms: the definitions as plain programs. They fold the whole history at each call; the engine calls none of them, and is compared with them.
+
+mod histories;
+mod tables;
+
+pub use histories::{pending, state, view};
