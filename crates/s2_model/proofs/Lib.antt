@@ -4,3 +4,4 @@ pub mod Simple
 pub mod InOrder
 pub mod SlowHistories
 pub mod SlowTables
+pub mod SlowAnswers

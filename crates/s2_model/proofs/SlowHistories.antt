@@ -1,6 +1,6 @@
 -- A history from a slice of entries, the oldest first.
 use Rattle.std.proofs.Common.{◌≡◌, ℕ, ◌+◌, ◌≤◌, ◌<◌, List, [], ◌∷◌, ◌++◌, length, take, drop, get_or, reverse, refl, sym, ap, ◌∙◌, arith, length-append, length-take-le}
-use Rattle.std.proofs.lemmas.List.{take_more, get_or_read, reverse-append, length-reverse, take-append-drop}
+use Rattle.std.proofs.lemmas.List.{take_more, reverse-append, length-reverse, take-append-drop}
 use Rattle.s2_model.specs.declared.entries.Entry.{Entry}
 use Rattle.s2_model.specs.History.{History, ◌▷◌, history, upto}
 use Rattle.s2_model.proofs.Timestamps.{upto_past, upto_all}
