@@ -24,3 +24,6 @@ pub mod WorkedRows
 pub mod FileRows
 pub mod SegmentFiles
 pub mod Background
+pub mod SlowHistories
+pub mod SlowTables
+pub mod SlowAnswers

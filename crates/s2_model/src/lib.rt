@@ -11,6 +11,7 @@ mod replies;
 mod rows;
 mod runs;
 mod scripts;
+mod slow;
 mod statements;
 
 pub use entries::{
@@ -33,6 +34,7 @@ pub use rows::{after, matches};
 pub use runs::simple_runs_are_right;
 pub use s2_value::{IdList, OffsetList, SegList, TableRows, ValueList};
 pub use scripts::{Line, LineList, Options, Script};
+pub use slow::{answer, pending, state, view};
 pub use statements::{
     Agg, AggList, ColPicks, Items, OrderList, RowList, Select, SetExpr, SetList, Stmt,
 };
