@@ -7,8 +7,6 @@ mod lines;
 mod notes;
 mod ready;
 mod store;
-#[cfg(test)]
-mod tests;
 
 pub use chain::{Slot, Version};
 pub use store::Rowstore;
