@@ -21,3 +21,9 @@ pub mod MergeStep
 pub mod Whole
 pub mod Facts
 pub mod WorkedRows
+pub mod FileRows
+pub mod SegmentFiles
+pub mod Background
+pub mod SlowHistories
+pub mod SlowTables
+pub mod SlowAnswers

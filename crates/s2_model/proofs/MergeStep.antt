@@ -36,7 +36,7 @@ pieces_of schema options H m = cut options.segment_rows (written_ids schema H m)
 abbrev dead : ℕ → MergeNote → Segment → Segment
 dead t m s = cond (contains_number m.olds s.number) (end_segment t s) s
 
-some_rows : (options : Options) → 0 < options.segment_rows
+pub some_rows : (options : Options) → 0 < options.segment_rows
 some_rows options =
     leb-true 1 options.segment_rows (and_parts _ _ (and_parts _ _ (and_parts _ _ (and_parts _ _ options.within).0).0).0).0
 

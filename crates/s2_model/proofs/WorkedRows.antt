@@ -1,5 +1,5 @@
 -- Worked histories: each entry fits the history before it, and the placement after them is as it should be.
-use Rattle.std.proofs.Common.{◌≡◌, ℕ, true, false, List, [], ◌∷◌, Some, None, codes, pos, refl, inl, arith}
+use Rattle.std.proofs.Common.{Box, Global, Option, ◌≡◌, ℕ, true, false, List, [], ◌∷◌, Some, None, codes, pos, refl, inl, arith}
 use Rattle.s2_value.specs.declared.values.Value.TheVariants.{Int, Text}
 use Rattle.s2_value.specs.declared.values.ColType.TheVariants as kind
 use Rattle.s2_value.specs.declared.schemas.Col.{Col}
@@ -16,16 +16,18 @@ use Rattle.s2_model.specs.Held.{sessions, is_held, is_held_by_other}
 use Rattle.s2_model.specs.Placement.{placed_rows}
 use Rattle.s2_model.specs.Plan.{file_order, tiers, plan}
 use Rattle.s2_model.specs.Fits.{least_needed, AllFit, WriteFits, MoveFits, FlushFits, MergeFits, EvictFits, VacuumFits}
+use Rattle.s2_model.specs.declared.outcomes.SegNote.{SegNote}
 use Rattle.s2_model.specs.Laws.{by_number}
-use Rattle.s2_model.specs.declared.predicates.Op.TheVariants.{Gt}
+use Rattle.s2_model.specs.Notes.{placement_note}
+use Rattle.s2_model.specs.declared.predicates.Op.TheVariants.{Eq, Gt, Le, Lt}
 use Rattle.s2_model.specs.declared.predicates.Pred.{Pred}
-use Rattle.s2_model.specs.declared.predicates.Pred.TheVariants.{All, Cmp}
+use Rattle.s2_model.specs.declared.predicates.Pred.TheVariants.{All, Cmp, Not'}
 use Rattle.s2_model.specs.declared.replies.Refusal.TheVariants.{Overtaken, ReadFault}
 use Rattle.s2_model.specs.declared.replies.Reply.TheVariants.{Late, Merged, Nothing, Refused}
 use Rattle.s2_model.specs.declared.statements.Items.TheVariants.{Star}
 use Rattle.s2_model.specs.declared.statements.Stmt.{Stmt}
-use Rattle.s2_model.specs.declared.statements.Stmt.TheVariants.{FlushEnd, MergeEnd, Flush as FlushStmt, Merge as MergeStmt, Select as SelectStmt}
-use Rattle.s2_model.specs.Needed.{needed, counts_as_evicted, FaultsBy}
+use Rattle.s2_model.specs.declared.statements.Stmt.TheVariants.{Insert, FlushEnd, MergeEnd, Flush as FlushStmt, Merge as MergeStmt, Select as SelectStmt}
+use Rattle.s2_model.specs.Needed.{needed, counts_as_evicted, FaultsBy, holds_hash}
 use Rattle.s2_model.specs.Background.{WorksAs}
 
 infixr 30 ◌does◌
@@ -426,6 +428,49 @@ evicted_faults = record { may = refl; names = refl }
 evicted_needs_none : needed one_column default_options evicted 1 0 (select_where (Cmp 0 Gt (Int (pos 9)))) ≡ []
 evicted_needs_none = refl
 
+-- inside a read-only transaction an EVICT before its end counts, and one after it doesn't
+
+abbrev pinned : History
+pinned =
+    [] ▷ 1 does Write (Put 1 (number 5) ∷ [])
+    ▷ 1 does Commit
+    ▷ 1 does Flush (record { seg = 1; base = 2; rows = 1 ∷ []; marked = [] })
+    ▷ 1 does Upload 1
+    ▷ 2 does Pin
+
+pinned_needs : needed one_column default_options pinned 2 0 (select_where All) ≡ 1 ∷ []
+pinned_needs = refl
+
+pinned_lacks : counts_as_evicted (pinned ▷ 1 does Evict (1 ∷ []) ▷ 2 does Unpin) 5 2 1 ≡ true
+pinned_lacks = refl
+
+pinned_has : counts_as_evicted (pinned ▷ 2 does Unpin ▷ 1 does Evict (1 ∷ [])) 5 2 1 ≡ false
+pinned_has = refl
+
+-- keys: a value within the ends of the column, but of a hash that no row has, needs no segment
+
+orders_by_id : needed orders_table default_options (upto 3 orders) 2 0 (select_where (Cmp 0 Eq (Int (pos 1001)))) ≡ 1 ∷ []
+unfolding holds_hash
+orders_by_id = refl
+
+orders_by_sku : needed orders_table default_options (upto 3 orders) 2 0 (select_where (Cmp 1 Eq (Text (codes "jam")))) ≡ []
+unfolding holds_hash
+orders_by_sku = refl
+
+orders_by_range : needed orders_table default_options (upto 3 orders) 2 0 (select_where (Cmp 1 Lt (Text (codes "jam")))) ≡ 1 ∷ []
+orders_by_range = refl
+
+orders_not_in : (box : Box (Unit {0}) Global) → needed orders_table default_options (upto 3 orders) 2 0 (select_where (Not' box (Cmp 0 Le (Int (pos 1002))))) ≡ []
+orders_not_in box = refl
+
+orders_insert_same : needed orders_table default_options (upto 3 orders) 2 0 (Insert (order_row 1002 (codes "cap") (codes "new") 1 ∷ [])) ≡ 1 ∷ []
+unfolding holds_hash
+orders_insert_same = refl
+
+orders_insert_other : needed orders_table default_options (upto 3 orders) 2 0 (Insert (order_row 1003 (codes "cap") (codes "new") 1 ∷ [])) ≡ []
+unfolding holds_hash
+orders_insert_other = refl
+
 -- a flush comes too late, and then finds nothing
 
 abbrev late_flush : History
@@ -494,6 +539,29 @@ small_segments_fit = (
 small_segments_plan : plan small small_segments ≡ Some (3 ∷ 4 ∷ 7 ∷ 8 ∷ [])
 unfolding tiers plan
 small_segments_plan = refl
+
+-- notes on placement
+
+abbrev note_of : ℕ → List ℕ → ℕ → ℕ → Option ℕ → List (ℕ × ℕ) → SegNote
+note_of id rows base born died marks = record { id = id; rows = rows; base = base; born = born; died = died; marks = marks; stored = false; local = true }
+
+move_races_merge_note : placement_note move_races_merge ≡ record {
+  segs = note_of 1 (1 ∷ []) 2 3 (Some 10) ((7, 0) ∷ []) ∷ note_of 2 (2 ∷ []) 5 6 (Some 10) [] ∷ note_of 3 (2 ∷ 1 ∷ []) 6 10 None ((10, 1) ∷ []) ∷ [];
+  store = 1 ∷ [];
+  horizon = 0;
+  pins = [];
+}
+unfolding sessions
+move_races_merge_note = refl
+
+pin_reads_old_note : placement_note (upto 12 pin_reads_old) ≡ record {
+  segs = note_of 1 (1 ∷ []) 2 3 (Some 11) ((8, 0) ∷ []) ∷ note_of 2 (2 ∷ []) 5 6 (Some 11) ((8, 0) ∷ []) ∷ [];
+  store = [];
+  horizon = 7;
+  pins = (2, 7) ∷ [];
+}
+unfolding sessions
+pin_reads_old_note = refl
 
 -- what doesn't fit
 

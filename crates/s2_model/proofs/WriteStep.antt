@@ -36,7 +36,7 @@ living_row H P w n e =
     some_from_size (row_at (state H) n)
     (omega (arith, any_counts (λ v. v.id == n && is_living v) P.versions e, now_from_numbers H P w n))
 
-max_stays : (changes : List Change) (was : ℕ) → was ≤ greatest_in changes was
+pub max_stays : (changes : List Change) (was : ℕ) → was ≤ greatest_in changes was
 max_stays [] was = omega arith
 max_stays (c ∷ changes) was = omega (arith, max_stays changes (max was (number_of c)))
 

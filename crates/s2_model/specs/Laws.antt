@@ -1,7 +1,8 @@
 -- What holds of every history whose entries fit.
-use Rattle.std.specs.Prelude.{◌≡◌, ◌≤◌, ◌<◌, ◌+◌, ℕ, Bool, true, false, List, [], ◌∷◌, Some, length, nat_le, ◌&&◌, if◌then◌else◌, ◌==◌, is_some, count_by, sum_by}
+use Rattle.std.specs.Prelude.{◌≡◌, ◌≤◌, ◌<◌, ◌+◌, ℕ, Bool, true, false, List, [], ◌∷◌, Some, length, map, nat_le, ◌&&◌, if◌then◌else◌, ◌==◌, is_some, count_by, sum_by}
 use Rattle.std.specs.List.{list_any, AllByRecursion}
 use Rattle.s2_value.specs.declared.schemas.Schema.{Schema}
+use Rattle.s2_value.specs.Columns.{are_distinct}
 use Rattle.s2_model.specs.declared.entries.Entry.{Entry}
 use Rattle.s2_model.specs.declared.entries.What.{What}
 use Rattle.s2_model.specs.declared.entries.What.TheVariants.{Move, Flush, Merge, Upload, Evict, Vacuum, Commit}
@@ -9,9 +10,9 @@ use Rattle.s2_model.specs.declared.scripts.Options.{Options}
 use Rattle.s2_model.specs.Table.{Table, RowOf, row_at, IsTable}
 use Rattle.s2_model.specs.History.{History, ◌▷◌, upto, state, next, is_session, pin_of}
 use Rattle.s2_model.specs.Held.{holds}
-use Rattle.s2_model.specs.Placement.{Version, Spot, Segment, Placement, placement, placed_rows, lives, is_living, is_in_use, is_free, is_visible, is_alive, is_unmarked}
-use Rattle.s2_model.specs.Plan.{rests_in}
-use Rattle.s2_model.specs.Fits.{AllFit}
+use Rattle.s2_model.specs.Placement.{Version, Spot, Segment, Placement, placement, placed_rows, lives, is_living, is_in_use, is_free, is_visible, is_alive, is_unmarked, spot_ids, rows_by}
+use Rattle.s2_model.specs.Plan.{rests_in, row_ids, stands_before}
+use Rattle.s2_model.specs.Fits.{AllFit, rise_from, last_segment}
 
 -- rows by rising number; two rows of one number stay two
 abbrev pub into_order : ℕ × RowOf → Table → Table
@@ -84,6 +85,34 @@ RestingRowsAreRows = OfHistories (λ H. (numbers : List ℕ) (n : ℕ) → rests
 -- some living segment has the row at an unmarked place
 abbrev pub lies_in : List Segment → ℕ → Bool
 lies_in segments n = list_any (λ s. is_in_use s && list_any (λ x. x.id == n && is_free x) s.spots) segments
+
+-- each row stands strictly before the next one in file order
+abbrev pub in_order_from : Schema → ℕ × RowOf → Table → Bool
+in_order_from schema p [] = true
+in_order_from schema p (q ∷ rows) = stands_before schema p q && in_order_from schema q rows
+
+abbrev pub is_in_file_order : Schema → Table → Bool
+is_in_file_order schema [] = true
+is_in_file_order schema (p ∷ rows) = in_order_from schema p rows
+
+-- a segment of this base has at least one row and at most segment_rows; its row numbers are distinct, each has a row at the base, and these rows are in file order
+pub record IsFile (schema : Schema) (options : Options) (H : History) (b : ℕ) (ids : List ℕ) : Type 0 where
+  pub rows : row_ids (rows_by (state (upto b H)) ids) ≡ ids
+  pub order : is_in_file_order schema (rows_by (state (upto b H)) ids) ≡ true
+  pub distinct : are_distinct ids ≡ true
+  pub from : AllByRecursion (λ n. 1 ≤ n) ids
+  pub below : AllByRecursion (λ n. n < next H) ids
+  pub some : 1 ≤ length ids
+  pub most : length ids ≤ options.segment_rows
+
+-- segments have files, and their numbers rise from 1 to the last that was given
+pub record SegmentsHaveFiles (schema : Schema) (options : Options) (H : History) : Type 0 where
+  pub files : AllByRecursion (λ s. IsFile schema options H s.base (spot_ids s.spots)) (placement H).segments
+  pub rising : rise_from 0 (map (λ s. s.number) (placement H).segments) ≡ true
+  pub named : AllByRecursion (λ s. s.number ≤ last_segment H) (placement H).segments
+
+abbrev pub SegmentsAreFiles : Type 0
+SegmentsAreFiles = (schema : Schema) (options : Options) (H : History) → AllFit schema options H → SegmentsHaveFiles schema options H
 
 -- the three facts on numbers, with who holds a row
 pub record NumbersAreRight (H : History) : Type 0 where

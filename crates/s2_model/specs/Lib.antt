@@ -1,5 +1,6 @@
 pub mod Answer
 pub mod Background
+pub mod BackgroundLaws
 pub mod Defaults
 pub mod Driven
 pub mod Files
@@ -10,6 +11,7 @@ pub mod Laws
 pub mod Legal
 pub mod Limits
 pub mod Needed
+pub mod Notes
 pub mod OutputText
 pub mod Placement
 pub mod Plan

@@ -8,7 +8,7 @@ use Rattle.s2_value.specs.declared.schemas.Schema.{Schema}
 use Rattle.s2_value.specs.Bytes.{key_hash}
 use Rattle.s2_value.specs.Order.{value_cmp, row_eq}
 use Rattle.s2_value.specs.Rows.{key_of}
-use Rattle.s2_value.specs.Schemas.{keys_of}
+use Rattle.s2_value.specs.Schemas.{keys_of, key as key_at}
 use Rattle.s2_model.specs.declared.predicates.Pred.{Pred}
 use Rattle.s2_model.specs.declared.predicates.Pred.TheVariants.{All, Cmp, OneOf, And', Or', Not'}
 use Rattle.s2_model.specs.declared.predicates.Op.{Op}
@@ -113,14 +113,12 @@ fixed_key schema pred =
     (find (λ key. fixes (equalities pred) key.1) (enumerate_from 0 (keys_of schema)))
 
 -- the segment holds a row, marked or not, with the hash of this value of key j
-unfoldable pub holds_hash : Schema → History → Segment → ℕ → List ℕ → List Value → Bool
-holds_hash schema H s j places value =
-    list_any (λ p. key_hash j (key_of places p.1) == key_hash j value) (rows_of H s)
+unfoldable pub holds_hash : Schema → History → Segment → ℕ → List Value → Bool
+holds_hash schema H s j value = list_any (λ p. key_hash j (key_at schema j p.1) == key_hash j value) (rows_of H s)
 
 abbrev pub holds_fixed : Schema → History → Segment → Option (ℕ × List Value) → Bool
 holds_fixed schema H s None = true
-holds_fixed schema H s (Some key) =
-    list_any (λ numbered. numbered.0 == key.0 && holds_hash schema H s key.0 numbered.1 key.1) (enumerate_from 0 (keys_of schema))
+holds_fixed schema H s (Some fixed) = holds_hash schema H s fixed.0 fixed.1
 
 -- for the predicate: alive, not all marked, admitted, and outside a read-only transaction with the hash of the key that the predicate fixes
 
@@ -153,7 +151,7 @@ values_given places rows _ = []
 abbrev pub needs_for_values : Schema → History → ℕ → Stmt → Segment → Bool
 needs_for_values schema H k stmt s =
     is_alive (length H) s
-    && list_any (λ key. list_any (holds_hash schema H s key.0 key.1) (values_given key.1 (view H k) stmt))
+    && list_any (λ key. list_any (holds_hash schema H s key.0) (values_given key.1 (view H k) stmt))
     (enumerate_from 0 schema.uniques)
 
 -- the segments that a statement needs; MERGE END has the base of its job

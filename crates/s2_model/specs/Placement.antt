@@ -219,9 +219,17 @@ abbrev pub placement : History → Placement
 placement [] = nothing_placed
 placement (H ▷ e) = place_after e.what (length (H ▷ e)) (state H) (pending H e.actor) (placement H)
 
+-- the row numbers of places
+abbrev pub spot_ids : List Spot → List ℕ
+spot_ids spots = map (λ x. x.id) spots
+
+-- the rows of these numbers in a table
+abbrev pub rows_by : Table → List ℕ → Table
+rows_by rows ids = filter_map (λ n. option_map (λ row. (n, row)) (row_at rows n)) ids
+
 -- the rows at these places, with their values in the content at b
 abbrev pub rows_at_base : History → ℕ → List Spot → Table
-rows_at_base H b spots = filter_map (λ x. option_map (λ row. (x.id, row)) (row_at (state (upto b H)) x.id)) spots
+rows_at_base H b spots = rows_by (state (upto b H)) (spot_ids spots)
 
 -- the rows of a segment, in file order, with their values
 abbrev pub rows_of : History → Segment → Table

@@ -100,15 +100,15 @@ rests_in olds segments n =
 abbrev pub writes : Schema → List ℕ → History → Table
 writes schema olds H = file_order schema (filter (λ p. rests_in olds (placement H).segments p.0) (state H))
 
--- the first size of the numbers, and then what is left of them, so many times
-abbrev pub cut_times : ℕ → ℕ → List ℕ → List (List ℕ)
+-- the first size of them, and then what is left of them, so many times
+abbrev pub cut_times : {X : Type 0} → ℕ → ℕ → List X → List (List X)
 cut_times times size [] = []
-cut_times zero size (n ∷ ids) = []
-cut_times (suc times) size (n ∷ ids) = take size (n ∷ ids) ∷ cut_times times size (drop size (n ∷ ids))
+cut_times zero size (x ∷ xs) = []
+cut_times (suc times) size (x ∷ xs) = take size (x ∷ xs) ∷ cut_times times size (drop size (x ∷ xs))
 
 -- cut into pieces of this size, the last one with the rest
-abbrev pub cut : ℕ → List ℕ → List (List ℕ)
-cut size ids = cut_times (length ids) size ids
+abbrev pub cut : {X : Type 0} → ℕ → List X → List (List X)
+cut size xs = cut_times (length xs) size xs
 
 -- numbered on from s
 abbrev pub numbered : ℕ → List (List ℕ) → List (ℕ × List ℕ)

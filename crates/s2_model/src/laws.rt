@@ -1,4 +1,5 @@
 //! Laws on histories.
+ghost use Rattle.s2_model.specs.BackgroundLaws.{BackgroundEntriesFit, FaultsStay};
 ghost use Rattle.s2_model.specs.Laws.{
   HistoriesArePlaced,
   PlacedRowsAreRows,
@@ -7,6 +8,7 @@ ghost use Rattle.s2_model.specs.Laws.{
   HorizonsArePinned,
   PhysicalEntriesChangeNoRow,
   OnlyCommitsChange,
+  SegmentsAreFiles,
 };
 
 /// Where each entry fits the history before it, the rows placed at a timestamp from the horizon on are together the content at that timestamp, no row number is placed twice, and each held row that there is has a living version in the row store.
@@ -42,4 +44,19 @@ pub fn physical_entries_change_no_row()
 /// Only a COMMIT changes the content.
 pub fn only_commits_change()
     ensures { OnlyCommitsChange }
+{}
+
+/// There each segment has from one row to as many as a segment takes, its row numbers are distinct, at least 1 and below the next free one, and those of rows of the content at its base, these rows are in file order, and the segments' numbers rise up to the last that was given.
+pub fn segments_are_files()
+    ensures { SegmentsAreFiles }
+{}
+
+/// A background statement makes one entry at most, and that entry fits the history at which it is made, whoever may make it.
+pub fn background_entries_fit()
+    ensures { BackgroundEntriesFit }
+{}
+
+/// A fault of a port that a history allows at a timestamp is allowed there by each longer history too.
+pub fn faults_stay()
+    ensures { FaultsStay }
 {}

@@ -11,6 +11,7 @@ mod replies;
 mod rows;
 mod runs;
 mod scripts;
+mod slow;
 mod statements;
 
 pub use entries::{
@@ -18,8 +19,9 @@ pub use entries::{
 };
 pub use files::{Logged, RowFile};
 pub use laws::{
-    histories_are_placed, horizons_are_pinned, only_commits_change, physical_entries_change_no_row,
-    placed_rows_are_rows, resting_rows_are_rows, row_numbers_are_right,
+    background_entries_fit, faults_stay, histories_are_placed, horizons_are_pinned,
+    only_commits_change, physical_entries_change_no_row, placed_rows_are_rows,
+    resting_rows_are_rows, row_numbers_are_right, segments_are_files,
 };
 pub use logs::Log;
 pub use outcomes::{
@@ -32,6 +34,7 @@ pub use rows::{after, matches};
 pub use runs::simple_runs_are_right;
 pub use s2_value::{IdList, OffsetList, SegList, TableRows, ValueList};
 pub use scripts::{Line, LineList, Options, Script};
+pub use slow::{answer, pending, state, view};
 pub use statements::{
     Agg, AggList, ColPicks, Items, OrderList, RowList, Select, SetExpr, SetList, Stmt,
 };

@@ -26,7 +26,7 @@ fn accepts(op: Op, order: Ordering) -> bool
     }
 }
 
-fn compare_at(row: &[Value], column: u8, value: &Value) -> Ordering
+pub(crate) fn compare_at(row: &[Value], column: u8, value: &Value) -> Ordering
     ensures { result ≡ value_cmp (value_at row.now column) value.now }
 {
     match row.get(usize::from(column)) {
@@ -62,7 +62,7 @@ pub fn matches(pred: &Pred, row: &Row) -> bool
     }
 }
 
-fn copy_at(row: &[Value], column: u8) -> Result<Value, Memory>
+pub(crate) fn copy_at(row: &[Value], column: u8) -> Result<Value, Memory>
     ensures { IfOk result (λ v. v ≡ value_at row.now column) }
 {
     match row.get(usize::from(column)) {
@@ -71,7 +71,7 @@ fn copy_at(row: &[Value], column: u8) -> Result<Value, Memory>
     }
 }
 
-fn number_at(row: &[Value], column: u8) -> i64
+pub(crate) fn number_at(row: &[Value], column: u8) -> i64
     ensures { result ≡ number_in (value_at row.now column) }
 {
     match row.get(usize::from(column)) {

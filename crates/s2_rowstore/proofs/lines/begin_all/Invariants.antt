@@ -1,0 +1,12 @@
+use Rattle.std.proofs.Common.{◌≡◌, ℕ, true}
+use Rattle.std.specs.Vec.Iter.{into_iter_items}
+use Rattle.s2_rowstore.specs.Lines.{body_at, for_row, with_begun, are_apart, have_room}
+use Rattle.s2_rowstore.proofs.lines.begin_all.Given as goal
+
+abbrev pub invariant-loop-id : goal.invariant-loop-id
+invariant-loop-id l =
+    (goal.iterator-loop-id).can_next l.id-iterator × (goal.iterator-loop-id).is_finite l.id-iterator
+    × (are_apart (into_iter_items l.id-iterator) ≡ true)
+    × (have_room 1 l.lines.entries (into_iter_items l.id-iterator) ≡ true)
+    × ((n : ℕ) → with_begun l.time (for_row (into_iter_items l.id-iterator) n) (body_at l.lines.entries n)
+    ≡ with_begun l.time (for_row (into_iter_items l.initial.id-iterator) n) (body_at l.initial.lines.entries n))

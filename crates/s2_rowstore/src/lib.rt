@@ -1,0 +1,12 @@
+//! The row store: for each row its versions by time, and one open write.
+#![tactic(auto)]
+
+mod chain;
+mod copies;
+mod lines;
+mod notes;
+mod ready;
+mod store;
+
+pub use chain::{Slot, Version};
+pub use store::Rowstore;

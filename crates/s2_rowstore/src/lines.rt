@@ -1,0 +1,212 @@
+// The lines of all rows, by row number.
+ghost use Rattle.std.specs.Prelude.{◌≡◌, ◌<◌, ◌≤◌, ℕ, ◌++◌, ◌-◌, [], None, Some, OnOk, OnErr, is_some, false, true, vec_len, ◌==◌, if◌then◌else◌};
+ghost use Rattle.std.specs.Option.{option_copied, option_map};
+ghost use Rattle.s2_rowstore.specs.Chains.{body, own, seen, living_since, ended, begun, kept};
+ghost use Rattle.std.specs.Prelude.{IfOk};
+ghost use Rattle.std.specs.List.{filter};
+ghost use Rattle.s2_rowstore.specs.Keys.{body_has};
+ghost use Rattle.std.specs.Ordering.{nat_cmp};
+ghost use Rattle.std.specs.List.Sorted.{IsStrictlySortedBy};
+ghost use Rattle.s2_rowstore.specs.Visible.{visible_in, numbers};
+ghost use Rattle.s2_rowstore.specs.Lines.{line_at, body_at, for_row, names_row, are_apart, have_room, with_begun, with_slot, committed, undone};
+
+use crate::chain::{Chain, Slot};
+use s2_value::{Duplicate, Memory, Row, Seq, TableRows, Value};
+use std::alloc::Global;
+use std::collections::{BTreeMap, BTreeSet};
+
+pub(crate) type Lines = BTreeMap<u64, Chain>;
+
+/// The row as the actor sees it at r.
+pub(crate) fn seen_row(lines: &Lines, id: u64, actor: u8, r: u64) -> Option<&Row>
+    ensures { option_copied result ≡ seen actor r (body_at lines.now.entries id) }
+{
+    lines.get(&id)?.seen(actor, r)
+}
+
+/// When the row's living version began.
+pub(crate) fn row_since(lines: &Lines, id: u64) -> Option<u64>
+    ensures { result ≡ living_since (body_at lines.now.entries id).0 }
+{
+    lines.get(&id)?.living_since()
+}
+
+/// Makes room for two more versions of the row.
+pub(crate) fn reserve_line(lines: &mut Lines, alloc: Global, id: u64) -> Result<(), Memory>
+    ensures same { (n : ℕ) → body_at lines.new.entries n ≡ body_at lines.old.entries n }
+    ensures room { OnOk result (1 < (line_at lines.new.entries id).room) }
+    ensures kept { (n : ℕ) → (line_at lines.old.entries n).room ≤ (line_at lines.new.entries n).room }
+{
+    if let Some(chain) = lines.get_mut(&id) {
+        return chain.reserve();
+    }
+    let mut chain = Chain::new(alloc);
+    chain.reserve()?;
+    lines.insert(id, chain)?;
+    Ok(())
+}
+
+/// Begins a version of the row.
+pub(crate) fn begin_line(lines: &mut Lines, id: u64, row: Row, time: u64)
+    requires { 1 < (line_at lines.old.entries id).room }
+    ensures same { (n : ℕ) → body_at lines.new.entries n ≡ (if id == n then with_begun time (Some row) (body_at lines.old.entries n) else body_at lines.old.entries n) }
+    ensures room { (n : ℕ) → (id == n) ≡ false → (line_at lines.new.entries n).room ≡ (line_at lines.old.entries n).room }
+{
+    if let Some(chain) = lines.get_mut(&id) {
+        chain.begin(row, time);
+    }
+}
+
+/// Sets the open write of the row.
+pub(crate) fn put_line(lines: &mut Lines, id: u64, slot: Slot)
+    requires { 0 < (line_at lines.old.entries id).room }
+    ensures same { (n : ℕ) → body_at lines.new.entries n ≡ (if id == n then ((body_at lines.old.entries n).0, Some slot) else body_at lines.old.entries n) }
+    ensures room { (n : ℕ) → (line_at lines.new.entries n).room ≡ (line_at lines.old.entries n).room }
+{
+    if let Some(chain) = lines.get_mut(&id) {
+        chain.put(slot);
+    }
+}
+
+/// The actor's open write of the row takes effect.
+pub(crate) fn commit_line(lines: &mut Lines, id: u64, actor: u8, time: u64)
+    ensures { (n : ℕ) → body_at lines.new.entries n ≡ (if id == n then committed actor time (body_at lines.old.entries n) else body_at lines.old.entries n) }
+{
+    if let Some(chain) = lines.get_mut(&id) {
+        chain.commit(actor, time);
+    }
+}
+
+/// The actor's open write of the row is forgotten.
+pub(crate) fn undo_line(lines: &mut Lines, id: u64, actor: u8)
+    ensures { (n : ℕ) → body_at lines.new.entries n ≡ (if id == n then undone actor (body_at lines.old.entries n) else body_at lines.old.entries n) }
+{
+    if let Some(chain) = lines.get_mut(&id) {
+        chain.undo(actor);
+    }
+}
+
+/// The row's living version ends.
+pub(crate) fn end_line(lines: &mut Lines, id: u64, time: u64)
+    ensures { (n : ℕ) → body_at lines.new.entries n ≡ (if id == n then (ended time (body_at lines.old.entries n).0, (body_at lines.old.entries n).1) else body_at lines.old.entries n) }
+{
+    if let Some(chain) = lines.get_mut(&id) {
+        chain.end(time);
+    }
+}
+
+/// Begins a version of each of the rows.
+pub(crate) fn begin_all(lines: &mut Lines, rows: Vec<(u64, Row)>, time: u64)
+    requires apart { are_apart rows.items ≡ true }
+    requires room { have_room 1 lines.old.entries rows.items ≡ true }
+    ensures { (n : ℕ) → body_at lines.new.entries n ≡ with_begun time (for_row rows.items n) (body_at lines.old.entries n) }
+{
+    for (id, row) in rows {
+        begin_line(lines, id, row, time);
+    }
+}
+
+/// Sets the actor's open write of each of the rows.
+pub(crate) fn put_all(lines: &mut Lines, actor: u8, changes: Vec<(u64, Option<Row>)>)
+    requires apart { are_apart changes.items ≡ true }
+    requires room { have_room 0 lines.old.entries changes.items ≡ true }
+    ensures { (n : ℕ) → body_at lines.new.entries n ≡ with_slot actor (for_row changes.items n) (body_at lines.old.entries n) }
+{
+    for (id, change) in changes {
+        let slot = Slot {
+            holder: actor,
+            change,
+        };
+        put_line(lines, id, slot);
+    }
+}
+
+/// The actor's open writes take effect: all of them, since these are its rows.
+pub(crate) fn commit_all(lines: &mut Lines, ids: &BTreeSet<u64>, actor: u8, time: u64)
+    requires { (n : ℕ) → is_some (own actor (body_at lines.old.entries n).1) ≡ true → names_row ids.now.keys n ≡ true }
+    ensures { (n : ℕ) → body_at lines.new.entries n ≡ committed actor time (body_at lines.old.entries n) }
+{
+    commit_each(lines, ids, actor, time);
+}
+
+/// The actor's open writes are forgotten: all of them, since these are its rows.
+pub(crate) fn undo_all(lines: &mut Lines, ids: &BTreeSet<u64>, actor: u8)
+    requires { (n : ℕ) → is_some (own actor (body_at lines.old.entries n).1) ≡ true → names_row ids.now.keys n ≡ true }
+    ensures { (n : ℕ) → body_at lines.new.entries n ≡ undone actor (body_at lines.old.entries n) }
+{
+    undo_each(lines, ids, actor);
+}
+
+// The actor's open writes of these rows take effect.
+fn commit_each(lines: &mut Lines, ids: &BTreeSet<u64>, actor: u8, time: u64)
+    ensures { (n : ℕ) → body_at lines.new.entries n ≡ (if names_row ids.now.keys n then committed actor time (body_at lines.old.entries n) else body_at lines.old.entries n) }
+{
+    for id in ids {
+        commit_line(lines, *id, actor, time);
+    }
+}
+
+// The actor's open writes of these rows are forgotten.
+fn undo_each(lines: &mut Lines, ids: &BTreeSet<u64>, actor: u8)
+    ensures { (n : ℕ) → body_at lines.new.entries n ≡ (if names_row ids.now.keys n then undone actor (body_at lines.old.entries n) else body_at lines.old.entries n) }
+{
+    for id in ids {
+        undo_line(lines, *id, actor);
+    }
+}
+
+/// The rows as the actor sees them at r, by row number.
+pub(crate) fn visible_rows(
+    lines: &Lines,
+    alloc: Global,
+    actor: u8,
+    r: u64,
+) -> Result<TableRows, Memory>
+    ensures rows { IfOk result (λ rows. rows ≡ visible_in actor r lines.now.entries) }
+    ensures ordered { IsStrictlySortedBy nat_cmp (numbers lines.now.entries) }
+{
+    let mut rows = Seq::new(alloc);
+    for (id, chain) in lines {
+        if let Some(row) = chain.seen(actor, r) {
+            rows.add((*id, row.copy()?))?;
+        }
+    }
+    Ok(rows)
+}
+
+// Whether some version or open write of the row has the key at these places.
+fn row_has_key(lines: &Lines, id: u64, places: &[u8], key: &[Value]) -> bool
+    ensures { result ≡ body_has places.now key.now (body_at lines.now.entries id) }
+{
+    match lines.get(&id) {
+        Some(chain) => chain.has_key(places, key),
+        None => false,
+    }
+}
+
+/// Those of the rows of which some version or open write has the key at these places.
+pub(crate) fn rows_with_key(
+    lines: &Lines,
+    alloc: Global,
+    ids: &BTreeSet<u64>,
+    places: &[u8],
+    key: &[Value],
+) -> Result<Vec<u64>, Memory>
+    ensures rows { IfOk result (λ found. found.items ≡ filter (λ n. body_has places.now key.now (body_at lines.now.entries n)) ids.now.keys) }
+    ensures ordered { IsStrictlySortedBy nat_cmp ids.now.keys }
+{
+    let mut found = Vec::new(alloc);
+    for id in ids {
+        if row_has_key(lines, *id, places, key) {
+            found.push(*id)?;
+        }
+    }
+    Ok(found)
+}
+
+/// Forgets the versions that ended at or before `h`, and the rows of which nothing is left.
+pub(crate) fn cut_lines(lines: &mut Lines, h: u64)
+    ensures { (n : ℕ) → body_at lines.new.entries n ≡ (kept h (body_at lines.old.entries n).0, (body_at lines.old.entries n).1) }
+{
+    lines.retain(|_, chain| chain.cut(h));
+}

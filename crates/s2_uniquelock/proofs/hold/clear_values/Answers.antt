@@ -1,0 +1,10 @@
+use Rattle.std.proofs.Common.{rules, map}
+use Rattle.std.proofs.lemmas.Map.Made.{map_same_pairs}
+use Rattle.s2_uniquelock.specs.Holds.{without_actor}
+use Rattle.s2_uniquelock.proofs.Swept.{cleared_value}
+use Rattle.s2_uniquelock.proofs.hold.clear_values.Goals as goal
+
+pub returns-clause-holds : goal.returns-clause-holds
+returns-clause-holds c j q =
+    let e = map_same_pairs _ (map (without_actor c.args.actor)) _ (λ k v b w f' t. search rules) _ _ c.retain.ensures.filtered in
+    cleared_value c.args.actor _ _ e j q
