@@ -24,6 +24,3 @@ pub mod WorkedRows
 pub mod FileRows
 pub mod SegmentFiles
 pub mod Background
-pub mod SlowHistories
-pub mod SlowTables
-pub mod SlowAnswers

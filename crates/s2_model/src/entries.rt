@@ -1,5 +1,6 @@
 //! The entries of the history.
-use s2_value::{IdList, OffsetList, Row, SegList, Seq};
+use s2_value::{Duplicate, IdList, Memory, OffsetList, Row, SegList, Seq};
+use sqlite_items::Boxed;
 
 /// What a write does with one row number.
 #[derive(Debug, Drop)]
@@ -8,6 +9,15 @@ pub enum Change {
     Put(u64, Row),
     /// There is no row of this number any more.
     Drop(u64),
+}
+
+impl Duplicate for Change {
+    fn copy(&self) -> Result<Self, Memory> {
+        match self {
+            Change::Put(number, row) => Ok(Change::Put(*number, row.copy()?)),
+            Change::Drop(number) => Ok(Change::Drop(*number)),
+        }
+    }
 }
 
 /// The changes of one write, by rising row number.
@@ -63,9 +73,9 @@ pub enum What {
     /// Rows at these places move into the row store; the places are marked.
     Move(PlaceList),
     /// A segment is made of rows of the row store.
-    Flush(FlushNote),
+    Flush(Boxed<FlushNote>),
     /// Segments are replaced by new ones.
-    Merge(MergeNote),
+    Merge(Boxed<MergeNote>),
     /// The segment's file is in the blob store.
     Upload(u32),
     /// The local files of these segments are dropped.

@@ -11,7 +11,6 @@ mod replies;
 mod rows;
 mod runs;
 mod scripts;
-mod slow;
 mod statements;
 
 pub use entries::{
@@ -30,11 +29,10 @@ pub use outcomes::{
 };
 pub use predicates::{Op, Pred};
 pub use replies::{Cell, CellList, CellTable, Refusal, Reply};
-pub use rows::{after, matches};
+pub use rows::{after, compare_at, copy_at, matches, number_at};
 pub use runs::simple_runs_are_right;
 pub use s2_value::{IdList, OffsetList, SegList, TableRows, ValueList};
 pub use scripts::{Line, LineList, Options, Script};
-pub use slow::{answer, pending, state, view};
 pub use statements::{
     Agg, AggList, ColPicks, Items, OrderList, RowList, Select, SetExpr, SetList, Stmt,
 };

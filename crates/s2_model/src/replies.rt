@@ -1,5 +1,6 @@
 //! Replies.
 use s2_value::{Digest, SegList, Seq, Txt};
+use sqlite_items::Boxed;
 
 /// A value of an answer.
 #[derive(Debug, Drop)]
@@ -71,8 +72,8 @@ pub enum Refusal {
     /// The file that was read isn't the one that was put.
     Damaged {
         seg: u32,
-        kept: Digest,
-        found: Digest,
+        kept: Boxed<Digest>,
+        found: Boxed<Digest>,
     },
     /// The bytes that were read are no file of the segment.
     Unreadable {

@@ -26,7 +26,8 @@ fn accepts(op: Op, order: Ordering) -> bool
     }
 }
 
-pub(crate) fn compare_at(row: &[Value], column: u8, value: &Value) -> Ordering
+/// How the value of a column stands to a value. A column that the row doesn't have reads as the number 0.
+pub fn compare_at(row: &[Value], column: u8, value: &Value) -> Ordering
     ensures { result ≡ value_cmp (value_at row.now column) value.now }
 {
     match row.get(usize::from(column)) {
@@ -62,7 +63,8 @@ pub fn matches(pred: &Pred, row: &Row) -> bool
     }
 }
 
-pub(crate) fn copy_at(row: &[Value], column: u8) -> Result<Value, Memory>
+/// A copy of the value of a column. A column that the row doesn't have reads as the number 0. The `Err` is want of memory.
+pub fn copy_at(row: &[Value], column: u8) -> Result<Value, Memory>
     ensures { IfOk result (λ v. v ≡ value_at row.now column) }
 {
     match row.get(usize::from(column)) {
@@ -71,7 +73,8 @@ pub(crate) fn copy_at(row: &[Value], column: u8) -> Result<Value, Memory>
     }
 }
 
-pub(crate) fn number_at(row: &[Value], column: u8) -> i64
+/// The number in a column. A text, and a column that the row doesn't have, read as 0.
+pub fn number_at(row: &[Value], column: u8) -> i64
     ensures { result ≡ number_in (value_at row.now column) }
 {
     match row.get(usize::from(column)) {

@@ -1,6 +1,7 @@
 //! Statements.
 use crate::Pred;
 use s2_value::{Row, Seq, Value};
+use sqlite_items::Boxed;
 
 /// What a column is set to, computed from the row as it was.
 #[derive(Debug, Drop)]
@@ -73,11 +74,11 @@ pub enum Stmt {
     /// Inserts these rows.
     Insert(RowList),
     /// Sets columns of the rows that match.
-    Update(SetList, Pred),
+    Update(SetList, Boxed<Pred>),
     /// Deletes the rows that match.
-    Delete(Pred),
+    Delete(Boxed<Pred>),
     /// Reads.
-    Select(Select),
+    Select(Boxed<Select>),
     /// Begins a transaction.
     Begin,
     /// Begins a read-only transaction.

@@ -1,0 +1,3 @@
+pub mod SlowHistories
+pub mod SlowTables
+pub mod SlowAnswers
