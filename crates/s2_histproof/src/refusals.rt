@@ -27,7 +27,7 @@ pub(crate) fn put_refusal(out: &mut Vec<u8>, refusal: &Refusal) -> Result<(), Me
         Refusal::Overtaken { seg, base } => put_two(out, b"12 Overtaken", u64::from(*seg), *base),
         Refusal::Memory => put(out, b"13 Memory"),
         Refusal::NotYet => put(out, b"14 NotYet"),
-        Refusal::Damaged { seg, kept, found } => put_damaged(out, *seg, kept, found),
+        Refusal::Damaged { seg, kept, found } => put_damaged(out, *seg, kept.get(), found.get()),
         Refusal::Unreadable { seg } => put_word(out, b"16 Unreadable", u64::from(*seg)),
     }
 }

@@ -4,6 +4,7 @@ use s2_model::{
     Cell, CellList, Change, Entry, EntryList, FlushNote, MergeNote, Refusal, Reply, SaidList, What,
 };
 use s2_value::{Digest, Row, Seq, Txt, Value};
+use sqlite_items::Boxed;
 use std::alloc::Global;
 use std::test::Fail;
 
@@ -166,9 +167,9 @@ fn refusals(said: &mut SaidList) -> Result<(), Memory> {
     )
 }
 
-fn more_refusals(said: &mut SaidList) -> Result<(), Memory> {
-    let kept = Digest::new([0; 32]);
-    let found = Digest::new([0xaf; 32]);
+fn more_refusals(alloc: Global, said: &mut SaidList) -> Result<(), Memory> {
+    let kept = Boxed::new(alloc, Digest::new([0; 32]))?;
+    let found = Boxed::new(alloc, Digest::new([0xaf; 32]))?;
     refuse(said, Refusal::Duplicate { key: 2, row: 13 })?;
     refuse(said, Refusal::ReadFault { count: 14 })?;
     refuse(said, Refusal::WriteFault { count: 15 })?;
@@ -203,12 +204,13 @@ fn logical_entries(alloc: Global, history: &mut EntryList) -> Result<(), Fail> {
 fn flush(alloc: Global, seg: u32, base: u64, rows: &[u64], marked: &[u32]) -> Result<What, Memory> {
     let rows = list(alloc, rows)?;
     let marked = list(alloc, marked)?;
-    Ok(What::Flush(FlushNote {
+    let note = FlushNote {
         seg,
         base,
         rows,
         marked,
-    }))
+    };
+    Ok(What::Flush(Boxed::new(alloc, note)?))
 }
 
 fn merge(alloc: Global) -> Result<What, Memory> {
@@ -217,12 +219,13 @@ fn merge(alloc: Global) -> Result<What, Memory> {
     let mut news = Seq::new(alloc);
     news.add((5, list(alloc, &[4, 9])?))?;
     news.add((6, list(alloc, &[8])?))?;
-    Ok(What::Merge(MergeNote {
+    let note = MergeNote {
         base: 8,
         olds,
         news,
         marked,
-    }))
+    };
+    Ok(What::Merge(Boxed::new(alloc, note)?))
 }
 
 fn physical_entries(alloc: Global, history: &mut EntryList) -> Result<(), Memory> {
@@ -240,7 +243,7 @@ fn long_run(alloc: Global) -> Result<Outcome, Fail> {
     more_replies(alloc, &mut answered)?;
     let mut refused = Seq::new(alloc);
     refusals(&mut refused)?;
-    more_refusals(&mut refused)?;
+    more_refusals(alloc, &mut refused)?;
     let mut transcripts = Seq::new(alloc);
     transcripts.add(Transcript {
         session: 2,

@@ -1,5 +1,5 @@
 -- A run of simple statements of session 1 in their order is legal.
-use Rattle.std.proofs.Common.{◌≡◌, ℕ, ◌+◌, ◌≤◌, Bool, true, false, cond, Option, None, List, [], ◌∷◌, ◌++◌, length, map, refl, sym, ap, subst, ◌∙◌, arith, MatchOption}
+use Rattle.std.proofs.Common.{◌≡◌, ℕ, ◌+◌, ◌≤◌, Bool, true, false, cond, Option, None, List, [], ◌∷◌, ◌++◌, length, map, refl, sym, ap, subst, ◌∙◌, arith, MatchOption, inl}
 use Rattle.std.specs.Prelude.{filter, nat_eq, nat_le, unwrap_or, ◌||◌, ◌&&◌}
 use Rattle.std.specs.List.{list_any, list_all}
 use Rattle.std.proofs.lemmas.Bool.{false≢true}
@@ -15,7 +15,7 @@ use Rattle.s2_model.specs.declared.outcomes.Said.{Said}
 use Rattle.s2_model.specs.Held.{sessions}
 use Rattle.s2_model.specs.History.{History, ◌▷◌, history, upto, pin_of, own, extended}
 use Rattle.s2_model.specs.Fits.{AllFit}
-use Rattle.s2_model.specs.Legal.{Walk, start, walked, Meets, Replies, Answers, pin_for, is_end, is_of_session, stmts_of, sessions_in}
+use Rattle.s2_model.specs.Legal.{Walk, start, walked, Meets, Replies, Answers, pin_for, is_end, is_of_session, stmts_of, sessions_in, marks_of}
 use Rattle.s2_model.specs.Driven.{Turn, Drives, said_by, IsRightRun, SimpleRunsAreRight, AreSimple, one_transcript, are_of_sessions}
 use Rattle.s2_model.proofs.Timestamps.{upto_all, upto-upto, upto-extended, length-extended}
 use Rattle.s2_model.proofs.Simple.{Alone, made as made_by, alone_after, fit_after}
@@ -80,11 +80,11 @@ reads_at whole stmt pin floor r none low high =
     (subst (λ p. MatchOption p ((floor ≤ r) × (r ≤ length whole)) (λ t. r ≡ t)) (sym (no_pin stmt)) (low, high))
 
 -- a turn meets the whole history
-turn_meets : (schema : Schema) (H whole : History) (w : Walk) (stmt : Stmt) (d : Said) (es : List What) → Alone H
+turn_meets : (schema : Schema) (options : Options) (marks : ℕ → ℕ → Bool) (H whole : History) (w : Walk) (stmt : Stmt) (d : Said) (es : List What) → Alone H
     → w.floor ≡ length H → w.made ≡ H → w.faults ≡ 0 → d.r ≡ length H → Answers schema (upto d.r H) 1 stmt d.reply es
     → upto (length H) whole ≡ H → upto (length (extended 1 es H)) whole ≡ extended 1 es H → length H ≤ length whole
-    → Meets schema whole 1 w stmt d es
-turn_meets schema H whole w stmt d es alone floor made faults now answer here there long =
+    → Meets schema options marks whole 1 w stmt d es
+turn_meets schema options marks H whole w stmt d es alone floor made faults now answer here there long =
     let at : upto d.r whole ≡ H = ap (λ r. upto r whole) now ∙ here in
     let all : upto d.r H ≡ H = upto_all d.r H (omega arith) in
     let last : d.r + length es ≡ length (extended 1 es H) = omega (arith, length-extended 1 es H) in
@@ -92,25 +92,25 @@ turn_meets schema H whole w stmt d es alone floor made faults now answer here th
       time = reads_at whole stmt _ w.floor d.r (ap (λ r. pin_of (upto r whole) 1) floor ∙ ap (λ h. pin_of h 1) here ∙ alone.pin) (omega arith) (omega arith);
       earlier = ap (own 1) at ∙ own_all H alone.actors ∙ sym made;
       stands = ap (λ r. upto r whole) last ∙ there ∙ ap (extended 1 es) (sym at);
-      answer = subst (λ h. Answers schema h 1 stmt d.reply es) (all ∙ sym at) answer;
+      answer = inl (subst (λ h. Answers schema h 1 stmt d.reply es) (all ∙ sym at) answer);
       faults = omega arith;
     }
 
 -- how a run of simple lines ends
-pub record Ends (schema : Schema) (whole : History) (w : Walk) (ls : List Line) (ds : List Said) : Type 0 where
+pub record Ends (schema : Schema) (options : Options) (marks : ℕ → ℕ → Bool) (whole : History) (w : Walk) (ls : List Line) (ds : List Said) : Type 0 where
   pub end : Walk
-  pub replies : Replies schema whole 1 w (map (λ l. l.stmt) ls) ds end
+  pub replies : Replies schema options marks whole 1 w (map (λ l. l.stmt) ls) ds end
   pub made : end.made ≡ whole
   pub faults : end.faults ≡ 0
   pub alone : Alone whole
 
-pub ends : (schema : Schema) (ls : List Line) (ds : List Said) (H whole : History) (w : Walk) → AreSimple schema ls → Alone H
-    → w.floor ≡ length H → w.made ≡ H → w.faults ≡ 0 → Drives schema H ls ds whole → Ends schema whole w ls ds
-ends schema [] [] H whole w simple alone floor made faults run =
+pub ends : (schema : Schema) (options : Options) (marks : ℕ → ℕ → Bool) (ls : List Line) (ds : List Said) (H whole : History) (w : Walk) → AreSimple schema ls → Alone H
+    → w.floor ≡ length H → w.made ≡ H → w.faults ≡ 0 → Drives schema H ls ds whole → Ends schema options marks whole w ls ds
+ends schema options marks [] [] H whole w simple alone floor made faults run =
     record { end = w; replies = refl; made = made ∙ sym run; faults = faults; alone = subst Alone (sym run) alone }
-ends schema [] (d ∷ ds) H whole w simple alone floor made faults run = absurd run
-ends schema (l ∷ ls) [] H whole w simple alone floor made faults run = absurd run
-ends schema (l ∷ ls) (d ∷ ds) H whole w simple alone floor made faults run =
+ends schema options marks [] (d ∷ ds) H whole w simple alone floor made faults run = absurd run
+ends schema options marks (l ∷ ls) [] H whole w simple alone floor made faults run = absurd run
+ends schema options marks (l ∷ ls) (d ∷ ds) H whole w simple alone floor made faults run =
     let es = run.0 in
     let turn = run.1 in
     let now : d.r ≡ length H = reads_now H l.stmt _ d.r (ap (pin_of H) simple.0 ∙ alone.pin) turn.time in
@@ -118,13 +118,13 @@ ends schema (l ∷ ls) (d ∷ ds) H whole w simple alone floor made faults run =
     let all : upto d.r H ≡ H = upto_all d.r H (omega arith) in
     let made_now = made_by schema H l.stmt d.reply es alone simple.1 (subst (λ h. Answers schema h 1 l.stmt d.reply es) all answer) in
     let later = subst (λ k. Drives schema (extended k es H) ls ds whole) simple.0 run.2 in
-    let rest = ends schema ls ds (extended 1 es H) whole (walked 1 w d es) simple.2 (alone_after schema H es alone made_now)
+    let rest = ends schema options marks ls ds (extended 1 es H) whole (walked 1 w l.stmt d es) simple.2 (alone_after schema H es alone made_now)
     (ap (λ r. r + length es) now ∙ sym (length-extended 1 es H)) (ap (extended 1 es) made) turn.faults later in
     record {
       end = rest.end;
       replies = (
         es,
-        turn_meets schema H whole w l.stmt d es alone floor made faults now answer
+        turn_meets schema options marks H whole w l.stmt d es alone floor made faults now answer
             (begins schema (l ∷ ls) (d ∷ ds) H whole run) (begins schema ls ds (extended 1 es H) whole later) (within schema (l ∷ ls) (d ∷ ds) H whole run),
         rest.replies,
       );
@@ -213,7 +213,8 @@ right_by script entries (l ∷ ls) [] lines simple run = absurd run
 right_by script entries (l ∷ ls) (d ∷ ds) lines simple run =
     let schema = script.schema in
     let whole = history entries in
-    let e = ends schema (l ∷ ls) (d ∷ ds) [] whole start simple alone_at_first refl refl refl run in
+    let marks = marks_of script.lines (one_transcript (d ∷ ds)) in
+    let e = ends schema script.options marks (l ∷ ls) (d ∷ ds) [] whole start simple alone_at_first refl refl refl run in
     record {
       legal = record {
         fits = all_fit schema script.options (l ∷ ls) (d ∷ ds) [] whole simple alone_at_first tt run;
@@ -221,7 +222,7 @@ right_by script entries (l ∷ ls) (d ∷ ds) lines simple run =
         each = (
           record {
             end = e.end;
-            replies = subst (λ ss. Replies schema whole 1 start ss (d ∷ ds) e.end) (sym (ap (stmts_of 1) lines ∙ all_stmts schema (l ∷ ls) simple)) e.replies;
+            replies = subst (λ ss. Replies schema script.options marks whole 1 start ss (d ∷ ds) e.end) (sym (ap (stmts_of 1) lines ∙ all_stmts schema (l ∷ ls) simple)) e.replies;
             counted = omega (arith, e.faults);
             complete = own_all whole e.alone.actors ∙ sym e.made;
           },

@@ -24,3 +24,4 @@ pub mod WorkedRows
 pub mod FileRows
 pub mod SegmentFiles
 pub mod Background
+pub mod LongerRuns

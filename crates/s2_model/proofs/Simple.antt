@@ -20,7 +20,7 @@ use Rattle.s2_model.specs.Table.{RowOf}
 use Rattle.s2_model.specs.History.{History, ◌▷◌, is_running, pin_of, next, extended}
 use Rattle.s2_model.specs.Verdict.{Ruled, refused, write_verdict, write_or, too_many, puts_from, last_length}
 use Rattle.s2_model.specs.Fits.{WriteFits, Fits, AllFit, is_writable}
-use Rattle.s2_model.specs.Legal.{Answers, ByVerdict, ForMemory}
+use Rattle.s2_model.specs.Legal.{Answers, ByVerdict, ForMemory, first_move}
 use Rattle.s2_model.specs.Driven.{IsSimpleStmt}
 use Rattle.s2_model.proofs.Inserts.{puts_rise, puts_fit, puts_new_only, puts_run_on}
 
@@ -61,14 +61,14 @@ some_of : (n : ℕ) → nat_lt 0 (suc n) ≡ true
 some_of n = grind (arith, nat_tests)
 
 write_made : (schema : Schema) (H : History) (r : Option Refusal) (running : Bool) (cs : List Change) → running ≡ false
-    → (r ≡ None → nat_lt 0 (length cs) ≡ true → WriteFits schema H 1 cs) → Made schema H (write_or r running cs).makes
+    → (r ≡ None → nat_lt 0 (length cs) ≡ true → WriteFits schema H 1 cs) → Made schema H (write_or r [] running cs).makes
 write_made schema H (Some r) running cs idle fit = inl refl
 write_made schema H None running [] idle fit = inl refl
 write_made schema H None true (c ∷ cs) idle fit = absurd (false≢true (sym idle))
 write_made schema H None false (c ∷ cs) idle fit = inr (c ∷ cs, refl, fit refl (some_of (length cs)))
 
-full_or : (schema : Schema) (H : History) (full : Bool) (r : Option Refusal) (running : Bool) (cs : List Change) → Made schema H (write_or r running cs).makes
-    → Made schema H (cond {A = Ruled} full (refused refusal.LogFull) (write_or r running cs)).makes
+full_or : (schema : Schema) (H : History) (full : Bool) (r : Option Refusal) (running : Bool) (cs : List Change) → Made schema H (write_or r [] running cs).makes
+    → Made schema H (cond {A = Ruled} full (refused refusal.LogFull) (write_or r [] running cs)).makes
 full_or schema H true r running cs m = inl refl
 full_or schema H false r running cs m = m
 
@@ -83,12 +83,31 @@ insert_made schema H xs alone rows =
     (write_made schema H _ (is_running H 1) (puts_from (next H) xs) alone.idle
     (λ none some. insert_fits schema H xs alone rows (first_none _ _ none) some)))
 
+-- what an INSERT makes begins with no MOVE
+no_move : (r : Option Refusal) (running : Bool) (cs : List Change) → first_move (write_or r [] running cs).makes ≡ []
+no_move (Some r) running cs = refl
+no_move None running [] = refl
+no_move None true (c ∷ cs) = refl
+no_move None false (c ∷ cs) = refl
+
+no_move_or : (full : Bool) (r : Option Refusal) (running : Bool) (cs : List Change)
+    → first_move (cond {A = Ruled} full (refused refusal.LogFull) (write_or r [] running cs)).makes ≡ []
+no_move_or true r running cs = refl
+no_move_or false r running cs = no_move r running cs
+
+insert_moves : (schema : Schema) (H : History) (xs : List RowOf) → Alone H → first_move (write_verdict schema H 1 (Insert xs)).makes ≡ []
+insert_moves schema H xs alone = rw alone.pin (no_move_or (nat_lt last_length (length H)) _ (is_running H 1) (puts_from (next H) xs))
+
+nothing_moved : (schema : Schema) (H : History) (es whats : List What) → whats ≡ [] → (es ≡ []) ⊎ (es ≡ whats) → Made schema H es
+nothing_moved schema H es whats none (inl e) = inl e
+nothing_moved schema H es whats none (inr e) = inl (e ∙ none)
+
 pub made : (schema : Schema) (H : History) (stmt : Stmt) (reply : Reply) (es : List What) → Alone H → IsSimpleStmt schema stmt
     → Answers schema H 1 stmt reply es → Made schema H es
-made schema H (Select select) reply es alone simple a = ⊎_elim (λ (v : ByVerdict schema H 1 (Select select) reply es). inl v.entries_are) (λ (m : ForMemory (Select select) reply es). inl m.nothing) a
+made schema H (Select select) reply es alone simple a = ⊎_elim (λ (v : ByVerdict schema H 1 (Select select) reply es). inl v.entries_are) (λ (m : ForMemory schema H 1 (Select select) reply es). nothing_moved schema H es [] refl m.moved) a
 made schema H (Insert xs) reply es alone simple a =
     ⊎_elim (λ (v : ByVerdict schema H 1 (Insert xs) reply es). subst (Made schema H) (sym v.entries_are) (insert_made schema H xs alone simple))
-    (λ (m : ForMemory (Insert xs) reply es). inl m.nothing) a
+    (λ (m : ForMemory schema H 1 (Insert xs) reply es). nothing_moved schema H es _ (insert_moves schema H xs alone) m.moved) a
 made schema H (Update sets pred) reply es alone simple a = absurd simple
 made schema H (Delete pred) reply es alone simple a = absurd simple
 made schema H Begin reply es alone simple a = absurd simple

@@ -1,7 +1,7 @@
 -- The verdict on a statement: its reply, and the entries that it makes.
-use Rattle.std.specs.Prelude.{ℕ, suc, Bool, List, [], ◌∷◌, Option, Some, None, filter, map, length, not, nat_lt, ◌&&◌, if◌then◌else◌, ◌==◌, is_some, is_none, unwrap_or}
+use Rattle.std.specs.Prelude.{ℕ, suc, Bool, List, [], ◌∷◌, ◌++◌, Option, Some, None, filter, flat_map, map, length, not, nat_lt, ◌&&◌, if◌then◌else◌, ◌==◌, is_some, is_none, unwrap_or}
 use Rattle.std.specs.Option.{option_map, option_or}
-use Rattle.std.specs.List.{list_any, find}
+use Rattle.std.specs.List.{list_any, find, enumerate_from}
 use Rattle.s2_value.specs.declared.values.Value.{Value}
 use Rattle.s2_value.specs.declared.schemas.Schema.{Schema}
 use Rattle.s2_value.specs.Order.{row_eq}
@@ -22,6 +22,7 @@ use Rattle.s2_model.specs.History.{History, is_running, is_open, pin_of, next, v
 use Rattle.s2_model.specs.Rows.{matches, after}
 use Rattle.s2_model.specs.Answer.{answer}
 use Rattle.s2_model.specs.Held.{holds, holds_value, sessions}
+use Rattle.s2_model.specs.Placement.{Segment, placement, contains_number, is_in_use, is_free}
 
 -- the last length of a history at which a statement that appends is taken
 abbrev pub last_length : ℕ
@@ -129,25 +130,44 @@ refused r = says (Refused r)
 abbrev pub makes : Reply → List What → Ruled
 makes reply entries = record { reply = reply; makes = entries }
 
+-- a write moves the rows that it matches out of segments first
+
+-- the unmarked places of a segment with these row numbers
+abbrev pub resting_in : List ℕ → Segment → List (ℕ × ℕ)
+resting_in ids s = map (λ p. (s.number, p.0)) (filter (λ p. is_free p.1 && contains_number ids p.1.id) (enumerate_from 0 s.spots))
+
+-- the places at which these rows lie in living segments, by segment, then by offset
+abbrev pub resting_places : List Segment → List ℕ → List (ℕ × ℕ)
+resting_places segments ids = flat_map (resting_in ids) (filter is_in_use segments)
+
+abbrev pub move_of : List (ℕ × ℕ) → List What
+move_of [] = []
+move_of (p ∷ places) = what.Move (p ∷ places) ∷ []
+
+-- a MOVE of the matched rows that lie in a segment, if any
+abbrev pub moves : History → Table → List What
+moves H [] = []
+moves H (p ∷ rows) = move_of (resting_places (placement H).segments (map (λ q. q.0) (p ∷ rows)))
+
 -- a write is committed at once where its actor isn't in a transaction
 abbrev pub entries_of : Bool → List Change → List What
 entries_of running cs = if running then what.Write cs ∷ [] else what.Write cs ∷ what.Commit ∷ []
 
--- a write without a refusal; no kind of entry that is built bears a segment, so no MOVE stands before its WRITE
-abbrev pub written : Bool → List Change → Ruled
-written running [] = says (Changed 0)
-written running (c ∷ cs) = makes (Changed (length (c ∷ cs))) (entries_of running (c ∷ cs))
+-- a write without a refusal
+abbrev pub written : List What → Bool → List Change → Ruled
+written moved running [] = says (Changed 0)
+written moved running (c ∷ cs) = makes (Changed (length (c ∷ cs))) (moved ++ entries_of running (c ∷ cs))
 
-abbrev pub write_or : Option Refusal → Bool → List Change → Ruled
-write_or (Some r) running cs = refused r
-write_or None running cs = written running cs
+abbrev pub write_or : Option Refusal → List What → Bool → List Change → Ruled
+write_or (Some r) moved running cs = refused r
+write_or None moved running cs = written moved running cs
 
 abbrev pub write_verdict : Schema → History → ℕ → Stmt → Ruled
 write_verdict schema H k stmt =
     if is_some (pin_of H k) then refused refusal.ReadOnly
     else (if nat_lt last_length (length H) then refused refusal.LogFull
     else (let rows = view H k in let cs = changes stmt rows (next H) in
-    write_or (refusal_of schema H k stmt rows cs) (is_running H k) cs))
+    write_or (refusal_of schema H k stmt rows cs) (moves H (matched stmt rows)) (is_running H k) cs))
 
 -- COMMIT and ROLLBACK end whichever transaction is open
 abbrev pub end_verdict : History → ℕ → What → Ruled

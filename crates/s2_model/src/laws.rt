@@ -1,5 +1,6 @@
 //! Laws on histories.
 ghost use Rattle.s2_model.specs.BackgroundLaws.{BackgroundEntriesFit, FaultsStay};
+ghost use Rattle.s2_model.specs.RepliesLaws.{ReplyStays, RepliesStay, RepliesGoOn, TranscriptsStay, SessionsJoin};
 ghost use Rattle.s2_model.specs.Laws.{
   HistoriesArePlaced,
   PlacedRowsAreRows,
@@ -59,4 +60,29 @@ pub fn background_entries_fit()
 /// A fault of a port that a history allows at a timestamp is allowed there by each longer history too.
 pub fn faults_stay()
     ensures { FaultsStay }
+{}
+
+/// A reply that is right against what a session has seen is right against each longer history, whatever marks are set besides.
+pub fn reply_stays()
+    ensures { ReplyStays }
+{}
+
+/// Replies that are right against what a session has seen, one after another, are right against each longer history.
+pub fn replies_stay()
+    ensures { RepliesStay }
+{}
+
+/// A reply that is right where a session's replies ended goes on with them.
+pub fn replies_go_on()
+    ensures { RepliesGoOn }
+{}
+
+/// A whole transcript that is right stays so in each longer history whose further entries are of others.
+pub fn transcripts_stay()
+    ensures { TranscriptsStay }
+{}
+
+/// Sessions that are each right against the part of the history that they have seen are together a legal run.
+pub fn sessions_join()
+    ensures { SessionsJoin }
 {}

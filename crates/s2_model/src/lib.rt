@@ -19,8 +19,9 @@ pub use entries::{
 pub use files::{Logged, RowFile};
 pub use laws::{
     background_entries_fit, faults_stay, histories_are_placed, horizons_are_pinned,
-    only_commits_change, physical_entries_change_no_row, placed_rows_are_rows,
-    resting_rows_are_rows, row_numbers_are_right, segments_are_files,
+    only_commits_change, physical_entries_change_no_row, placed_rows_are_rows, replies_go_on,
+    replies_stay, reply_stays, resting_rows_are_rows, row_numbers_are_right, segments_are_files,
+    sessions_join, transcripts_stay,
 };
 pub use logs::Log;
 pub use outcomes::{

@@ -1,5 +1,5 @@
 -- A row at the end of rising rows.
-use Rattle.std.proofs.Common.{◌≡◌, ℕ, ◌+◌, ◌<◌, ◌≤◌, Bool, true, false, cond, [], ◌∷◌, ◌++◌, refl, ap, ◌∙◌, arith}
+use Rattle.std.proofs.Common.{◌≡◌, ℕ, ◌+◌, ◌<◌, ◌≤◌, Bool, true, false, cond, [], ◌∷◌, ◌++◌, refl, ap, ◌∙◌, arith, append-nil}
 use Rattle.std.specs.Prelude.{nat_lt, nat_le, nat_eq, ◌&&◌}
 use Rattle.std.specs.Ordering.{nat_cmp, is_gt}
 use Rattle.std.proofs.lemmas.Bool.{false≢true}
@@ -8,7 +8,7 @@ use Rattle.s2_model.specs.declared.predicates.Pred.TheVariants.{All}
 use Rattle.s2_model.specs.Table.{Table, RowOf, put_row, rises_above}
 use Rattle.s2_model.specs.History.{History}
 use Rattle.s2_model.specs.Answer.{kept, ordered, insert_row}
-use Rattle.s2_run.specs.Plain.{IsPlain, ends_by}
+use Rattle.s2_run.specs.Plain.{IsPlain, ends_by, put_rows}
 use Rattle.s2_run.specs.Puts.{written}
 
 both : (a b : Bool) → (a && b) ≡ true → (a ≡ true) × (b ≡ true)
@@ -78,14 +78,17 @@ pub kept_all : (rows : Table) → kept All rows ≡ rows
 kept_all [] = refl
 kept_all (p ∷ rows) = ap (λ l. p ∷ l) (kept_all rows)
 
+-- the rows that are put, with one more
+pub put_more : (n : ℕ) (row : RowOf) (H : History) → put_rows (written n row H) ≡ put_rows H ++ (n, row) ∷ []
+put_more n row H = append-nil (put_rows H ++ (n, row) ∷ [])
+
 -- one more row keeps the engine plain
-pub plain_more : (rows : Table) (last : ℕ) (H : History) (row : RowOf) → IsPlain rows last H
-    → IsPlain (rows ++ (last + 1, row) ∷ []) (last + 1) (written (last + 1) row H)
-plain_more rows last H row plain = record {
-  content = rw (plain.content, plain.idle) (put_end (last + 1) last row rows plain.below (omega arith));
+pub plain_more : (last : ℕ) (H : History) (row : RowOf) → IsPlain last H → IsPlain (last + 1) (written (last + 1) row H)
+plain_more last H row plain = record {
+  content = rw (put_more (last + 1) row H, plain.content, plain.idle) (put_end (last + 1) last row (put_rows H) plain.below (omega arith));
   number = rw plain.number (omega arith);
-  rising = rising_end 0 (last + 1) last row rows plain.rising plain.below (omega arith) (omega arith);
-  below = ends_more last (last + 1) row rows plain.below (omega arith);
+  rising = rw (put_more (last + 1) row H) (rising_end 0 (last + 1) last row (put_rows H) plain.rising plain.below (omega arith) (omega arith));
+  below = rw (put_more (last + 1) row H) (ends_more last (last + 1) row (put_rows H) plain.below (omega arith));
   few = omega (arith, plain.few);
   idle = refl;
   pin = plain.pin;

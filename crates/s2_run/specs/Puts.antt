@@ -1,5 +1,5 @@
 -- What an INSERT of one row does to the plain engine.
-use Rattle.std.specs.Prelude.{◌≡◌, ℕ, ◌+◌, List, [], ◌∷◌, ◌++◌, length, nat_lt, MatchBool}
+use Rattle.std.specs.Prelude.{◌≡◌, ℕ, ◌+◌, List, [], ◌∷◌, length, nat_lt, MatchBool}
 use Rattle.s2_model.specs.declared.entries.What.{What}
 use Rattle.s2_model.specs.declared.entries.What.TheVariants.{Write, Commit}
 use Rattle.s2_model.specs.declared.entries.Change.TheVariants.{Put}
@@ -7,7 +7,7 @@ use Rattle.s2_model.specs.declared.outcomes.Said.{Said}
 use Rattle.s2_model.specs.declared.replies.Reply.{Reply}
 use Rattle.s2_model.specs.declared.replies.Reply.TheVariants.{Changed, Refused}
 use Rattle.s2_model.specs.declared.replies.Refusal.TheVariants.{LogFull}
-use Rattle.s2_model.specs.Table.{Table, RowOf}
+use Rattle.s2_model.specs.Table.{RowOf}
 use Rattle.s2_model.specs.History.{History, extended}
 use Rattle.s2_model.specs.Verdict.{last_length}
 
@@ -19,21 +19,19 @@ abbrev pub written : ℕ → RowOf → History → History
 written n row H = extended 1 (writes n row) H
 
 -- the row is there under the next number, with its entries
-pub record IsPut (rows : Table) (last : ℕ) (H : History) (row : RowOf) (rows' : Table) (last' : ℕ) (H' : History) (reply : Reply) : Type 0 where
+pub record IsPut (last : ℕ) (H : History) (row : RowOf) (last' : ℕ) (H' : History) (reply : Reply) : Type 0 where
   pub reply_is : reply ≡ Changed 1
-  pub rows_are : rows' ≡ rows ++ (last + 1, row) ∷ []
   pub last_is : last' ≡ last + 1
   pub log_is : H' ≡ written (last + 1) row H
 
 -- nothing changed, as the history is full
-pub record IsFull (rows : Table) (last : ℕ) (H : History) (rows' : Table) (last' : ℕ) (H' : History) (reply : Reply) : Type 0 where
+pub record IsFull (last : ℕ) (H : History) (last' : ℕ) (H' : History) (reply : Reply) : Type 0 where
   pub reply_is : reply ≡ Refused LogFull
-  pub rows_are : rows' ≡ rows
   pub last_is : last' ≡ last
   pub log_is : H' ≡ H
 
 -- whichever of the two the history's length says
-pub record Puts (rows : Table) (last : ℕ) (H : History) (row : RowOf) (rows' : Table) (last' : ℕ) (H' : History) (d : Said) : Type 0 where
+pub record Puts (last : ℕ) (H : History) (row : RowOf) (last' : ℕ) (H' : History) (d : Said) : Type 0 where
   pub at : d.r ≡ length H
   pub faults : d.faults ≡ 0
-  pub done : MatchBool (nat_lt last_length (length H)) (IsFull rows last H rows' last' H' d.reply) (IsPut rows last H row rows' last' H' d.reply)
+  pub done : MatchBool (nat_lt last_length (length H)) (IsFull last H last' H' d.reply) (IsPut last H row last' H' d.reply)

@@ -1,26 +1,39 @@
 //! A run of a script's lines in their order.
-ghost use Rattle.std.specs.Prelude.{◌≡◌, [], IfOk};
+ghost use Rattle.std.specs.Prelude.{◌≡◌, ◌∷◌, [], IfOk, length};
 ghost use Rattle.s2_model.specs.Driven.{IsRightRun, Drives, one_transcript};
 ghost use Rattle.s2_sqltext.specs.FirstForm.{IsFirstForm, IsFirstStmt, AreFirstLines};
 ghost use Rattle.s2_run.specs.Plain.{IsPlain, Answered};
 
 use crate::plain::Plain;
 use s2_model::{
-    Line, Outcome, Said, SaidList, Script, Stmt, Transcript, TranscriptList, simple_runs_are_right,
+    Line, LineList, Outcome, RowList, Said, SaidList, Script, Stmt, Transcript, TranscriptList,
+    simple_runs_are_right,
 };
-use s2_value::{Memory, Schema, Seq};
+use s2_value::{Memory, Row, Schema, Seq};
 use std::alloc::Global;
 
-fn turn(alloc: Global, plain: &mut Plain, schema: &Schema, line: &Line) -> Result<Said, Memory>
-    requires session { line.now.session ≡ 1 }
-    requires form { IsFirstStmt schema.now line.now.stmt }
-    requires keyless { schema.now.uniques ≡ [] }
-    requires plain { IsPlain plain.old.rows plain.old.last plain.old.log }
-    ensures answered { IfOk result (Answered schema.now plain.old.log line.now plain.new.log) }
-    ensures plain { IfOk result (λ _. IsPlain plain.new.rows plain.new.last plain.new.log) }
+/// The row of an INSERT of one row.
+fn only(rows: RowList) -> Row
+    requires { length rows ≡ 1 }
+    ensures { rows ≡ result ∷ [] }
 {
-    match &line.stmt {
-        Stmt::Insert(rows) => plain.insert(alloc, rows.at(0)),
+    let mut rows = rows.into_vec();
+    match rows.pop() {
+        Some(row) => row,
+        None => unreachable!(),
+    }
+}
+
+fn turn(alloc: Global, plain: &mut Plain, schema: &Schema, line: Line) -> Result<Said, Memory>
+    requires session { line.session ≡ 1 }
+    requires form { IsFirstStmt schema.now line.stmt }
+    requires keyless { schema.now.uniques ≡ [] }
+    requires plain { IsPlain plain.old.last plain.old.log }
+    ensures answered { IfOk result (Answered schema.now plain.old.log line plain.new.log) }
+    ensures plain { IfOk result (λ _. IsPlain plain.new.last plain.new.log) }
+{
+    match line.stmt {
+        Stmt::Insert(rows) => plain.insert(alloc, only(rows)),
         Stmt::Select(_) => plain.select(alloc),
         _ => unreachable!(),
     }
@@ -30,18 +43,17 @@ fn run_lines(
     alloc: Global,
     plain: &mut Plain,
     schema: &Schema,
-    lines: &[Line],
+    lines: LineList,
 ) -> Result<SaidList, Memory>
-    requires form { AreFirstLines schema.now lines.now }
+    requires form { AreFirstLines schema.now lines }
     requires keyless { schema.now.uniques ≡ [] }
-    requires plain { IsPlain plain.old.rows plain.old.last plain.old.log }
-    ensures { IfOk result (λ saids. Drives schema.now plain.old.log lines.now saids plain.new.log) }
+    requires plain { IsPlain plain.old.last plain.old.log }
+    ensures { IfOk result (λ saids. Drives schema.now plain.old.log lines saids plain.new.log) }
 {
     let mut saids = Vec::with_capacity(alloc, lines.len())?;
-    let mut left = lines;
-    while let [line, later @ ..] = left {
+    let mut left = lines.into_vec().into_iter();
+    while let Some(line) = left.next() {
         saids.push(turn(alloc, plain, schema, line)?)?;
-        left = later;
     }
     Ok(Seq::from_vec(saids))
 }
@@ -61,13 +73,14 @@ fn transcripts_of(alloc: Global, saids: SaidList) -> Result<TranscriptList, Memo
 }
 
 /// Runs the lines of a script of the first form in their order. The outcome is the history and the transcript of session 1.
-pub fn drive_call(alloc: Global, script: &Script) -> Result<Outcome, Memory>
-    requires { IsFirstForm script.now }
-    ensures { IfOk result (λ run. IsRightRun script.now run) }
+pub fn drive_call(alloc: Global, script: Script) -> Result<Outcome, Memory>
+    requires { IsFirstForm script }
+    ensures { IfOk result (λ run. IsRightRun script run) }
 {
     simple_runs_are_right();
+    let Script { schema, lines, .. } = script;
     let mut plain = Plain::new(alloc);
-    let saids = run_lines(alloc, &mut plain, &script.schema, script.lines.as_slice())?;
+    let saids = run_lines(alloc, &mut plain, &schema, lines)?;
     let transcripts = transcripts_of(alloc, saids)?;
     let history = plain.log.into_entries();
     Ok(Outcome {

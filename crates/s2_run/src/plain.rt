@@ -1,13 +1,11 @@
-//! The plain engine: a list of rows and a list of entries.
+//! The plain engine: a history whose writes are all committed.
 ghost use Rattle.std.specs.Prelude.{◌≡◌, ◌<◌, ◌≤◌, ◌+◌, ◌++◌, ◌∷◌, [], IfOk, length};
-ghost use Rattle.s2_value.specs.Schemas.{fits};
-ghost use Rattle.s2_model.specs.declared.statements.Stmt.TheVariants.{Insert, Select};
-ghost use Rattle.s2_run.specs.Plain.{IsPlain, Answered, whole_table};
+ghost use Rattle.s2_run.specs.Plain.{IsPlain, put_rows, whole_table};
 ghost use Rattle.s2_run.specs.Puts.{Puts, written};
 
 use crate::cells::table_of;
 use s2_model::{Change, Entry, Log, Refusal, Reply, Said, What};
-use s2_value::{Duplicate, Memory, Row, Seq, TableRows};
+use s2_value::{Memory, Row, Seq};
 use std::alloc::Global;
 
 /// The longest history to which a statement may still add entries.
@@ -16,10 +14,9 @@ const LAST_LENGTH: usize = 4_194_240;
 /// The actor of the one session.
 const SESSION: u8 = 1;
 
-/// The rows by rising number, the last number that was given, and the history.
+/// The last row number that was given, and the history. The rows stand in the history alone.
 #[derive(Drop)]
 pub struct Plain {
-    pub rows: TableRows,
     pub last: u64,
     pub log: Log,
 }
@@ -27,11 +24,10 @@ pub struct Plain {
 impl Plain {
     /// No rows and no entries.
     pub fn new(alloc: Global) -> Plain
-        ensures plain { IsPlain result.rows result.last result.log }
+        ensures plain { IsPlain result.last result.log }
         ensures empty { result.log ≡ [] }
     {
         Plain {
-            rows: Seq::new(alloc),
             last: 0,
             log: Log::new(alloc),
         }
@@ -39,19 +35,19 @@ impl Plain {
 
     /// Reads all rows.
     pub fn select(&self, alloc: Global) -> Result<Said, Memory>
-        ensures { IfOk result (λ d. (d.r ≡ length self.now.log) × (d.faults ≡ 0) × (d.reply ≡ Reply.Rows (whole_table self.now.rows))) }
+        ensures { IfOk result (λ d. (d.r ≡ length self.now.log) × (d.faults ≡ 0) × (d.reply ≡ Reply.Rows (whole_table (put_rows self.now.log)))) }
     {
         Ok(Said {
             r: self.log.len() as u64,
             faults: 0,
-            reply: Reply::Rows(table_of(alloc, self.rows.as_slice())?),
+            reply: Reply::Rows(table_of(alloc, self.log.as_slice())?),
         })
     }
 
     /// Inserts one row under the next number, unless the history is full.
-    pub fn insert(&mut self, alloc: Global, row: &Row) -> Result<Said, Memory>
+    pub fn insert(&mut self, alloc: Global, row: Row) -> Result<Said, Memory>
         requires { self.old.last ≤ length self.old.log }
-        ensures { IfOk result (Puts self.old.rows self.old.last self.old.log row.now self.new.rows self.new.last self.new.log) }
+        ensures { IfOk result (Puts self.old.last self.old.log row self.new.last self.new.log) }
     {
         let r = self.log.len();
         if r > LAST_LENGTH {
@@ -59,19 +55,18 @@ impl Plain {
         }
         let number = self.last + 1;
         self.write(alloc, number, row)?;
-        self.rows.add((number, row.copy()?))?;
         self.last = number;
         Ok(said(r, Reply::Changed(1)))
     }
 
-    fn write(&mut self, alloc: Global, number: u64, row: &Row) -> Result<(), Memory>
-        ensures { IfOk result (λ _. (self.new.log ≡ written number row.now self.old.log) × (self.new.rows ≡ self.old.rows) × (self.new.last ≡ self.old.last)) }
+    fn write(&mut self, alloc: Global, number: u64, row: Row) -> Result<(), Memory>
+        ensures { IfOk result (λ _. (self.new.log ≡ written number row self.old.log) × (self.new.last ≡ self.old.last)) }
     {
-        let mut changes = Seq::new(alloc);
-        changes.add(Change::Put(number, row.copy()?))?;
+        let mut changes = Vec::with_capacity(alloc, 1)?;
+        changes.push(Change::Put(number, row))?;
         self.log.append(Entry {
             actor: SESSION,
-            what: What::Write(changes),
+            what: What::Write(Seq::from_vec(changes)),
         })?;
         self.log.append(Entry {
             actor: SESSION,

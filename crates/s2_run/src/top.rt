@@ -32,22 +32,24 @@ fn ask_drive(words: &[String]) -> bool
     }
 }
 
-fn run_script(alloc: Global, script: &Script) -> Result<Vec<u8>, Memory>
-    requires { IsFirstForm script.now }
-    ensures { IfOk result (λ text. IsTextOf script.now text.items) }
+fn run_script(alloc: Global, script: Script) -> Result<Vec<u8>, Memory>
+    requires { IsFirstForm script }
+    ensures { IfOk result (λ text. IsTextOf script text.items) }
 {
     let outcome = drive_call(alloc, script)?;
     print_output(alloc, &outcome)
 }
 
-fn run_text(alloc: Global, bytes: &[u8]) -> Ending
-    requires { length bytes.now ≤ MOST_BYTES }
-    ensures { RunsText bytes.now result }
+fn run_text(alloc: Global, text: Vec<u8>) -> Ending
+    requires { length text.items ≤ MOST_BYTES }
+    ensures { RunsText text.items result }
 {
-    match read_script(alloc, bytes) {
+    let script = read_script(alloc, text.as_slice());
+    drop(text);
+    match script {
         Err(ScriptFault::Memory) => Ending::NoMemory,
         Err(ScriptFault::Bad(_)) => Ending::NotBuilt,
-        Ok(script) => match run_script(alloc, &script) {
+        Ok(script) => match run_script(alloc, script) {
             Ok(text) => Ending::Output(text),
             Err(_) => Ending::NoMemory,
         },
@@ -58,7 +60,7 @@ fn run_source<S: Source>(alloc: Global, src: &mut S) -> Ending
     ensures { Reads (S.left src.old) (Rose (S.faults src.old) (S.faults src.new)) result }
 {
     match read_all(alloc, src, MOST_BYTES) {
-        Ok(text) => run_text(alloc, text.as_slice()),
+        Ok(text) => run_text(alloc, text),
         Err(ReadStop::Failed) => Ending::SourceFault,
         Err(ReadStop::TooLong) => Ending::TooLong,
         Err(ReadStop::Memory) => Ending::NoMemory,

@@ -9,6 +9,7 @@ use crate::stops::Stop;
 use crate::tokens::{after, past};
 use s2_model::{Items, Line, Pred, Select, Stmt};
 use s2_value::{Schema, Seq};
+use sqlite_items::Boxed;
 use std::alloc::Global;
 
 /// The bytes after a line's end, which may have a semicolon.
@@ -44,7 +45,7 @@ fn select<'a>(alloc: Global, schema: &Schema, bytes: &'a [u8]) -> Result<(Stmt, 
         order: Seq::new(alloc),
         limit: None,
     };
-    Ok((Stmt::Select(every_row), rest))
+    Ok((Stmt::Select(Boxed::new(alloc, every_row)?), rest))
 }
 
 #[tactic(auto, unfolding(crate::specs::Reading::stmt_at))]
