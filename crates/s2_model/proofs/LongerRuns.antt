@@ -1,10 +1,9 @@
 -- Replies stay right in longer histories, and sessions join.
-use Rattle.std.proofs.Common.{◌≡◌, ℕ, suc, ◌+◌, ◌≤◌, Bool, true, false, cond, Option, Some, None, List, [], ◌∷◌, ◌++◌, length, map, refl, sym, ap, subst, ◌∙◌, arith, inl, inr, ◌⊎◌, ⊎_elim, MatchOption, MatchBool, is_some, length-append}
-use Rattle.std.specs.Prelude.{filter, nat_eq, nat_lt, unwrap_or}
+use Rattle.std.proofs.Common.{◌≡◌, ℕ, suc, ◌+◌, ◌≤◌, Bool, true, false, cond, Option, Some, None, List, [], ◌∷◌, ◌++◌, length, refl, sym, ap, subst, ◌∙◌, arith, inl, inr, ⊎_elim, MatchOption, MatchBool, is_some, length-append}
+use Rattle.std.specs.Prelude.{nat_eq, nat_lt, unwrap_or}
 use Rattle.std.specs.List.{AllByRecursion}
 use Rattle.std.proofs.lemmas.Bool.Decides.{nat_tests}
 use Rattle.s2_value.specs.declared.schemas.Schema.{Schema}
-use Rattle.s2_model.specs.declared.entries.Entry.{Entry}
 use Rattle.s2_model.specs.declared.entries.What.{What}
 use Rattle.s2_model.specs.declared.entries.What.TheVariants as what
 use Rattle.s2_model.specs.declared.statements.Stmt.{Stmt}
@@ -19,17 +18,12 @@ use Rattle.s2_model.specs.declared.outcomes.Transcript.{Transcript}
 use Rattle.s2_model.specs.History.{History, ◌▷◌, history, upto, pin_of, pin_after, own, extended}
 use Rattle.s2_model.specs.Needed.{FaultsBy}
 use Rattle.s2_model.specs.Background.{WorksAs, Works}
-use Rattle.s2_model.specs.Legal.{Walk, start, walked, Meets, Replies, Answers, Answered, ByWork, ByFault, IsTranscript, IsTranscriptOf, pin_for, is_end, marks_of, stmts_of}
-use Rattle.s2_model.specs.RepliesLaws.{MarksStay, ReplyStays, RepliesStay, RepliesGoOn, TranscriptsStay, IsSeenWell, SessionsJoin}
-use Rattle.s2_model.proofs.Timestamps.{upto_all, upto_past, length-extended}
+use Rattle.s2_model.specs.Legal.{Walk, start, walked, Meets, Answers, ByWork, ByFault, IsTranscriptOf, pin_for, is_end, marks_of, stmts_of}
+use Rattle.s2_model.specs.RepliesLaws.{ReplyStays, RepliesStay, RepliesGoOn, TranscriptsStay, IsSeenWell, SessionsJoin}
+use Rattle.s2_model.proofs.Timestamps.{upto_later, length-extended}
 use Rattle.s2_model.proofs.Background.{faults_stay}
 
 -- longer histories
-
-pub upto_later : (r : ℕ) (later H : History) → r ≤ length H → upto r (later ++ H) ≡ upto r H
-upto_later r [] H le = refl
-upto_later r (later ▷ e) H le =
-    upto_past r (later ++ H) e (omega (arith, length-append later H)) ∙ upto_later r later H le
 
 longer : (later H : History) → length H ≤ length (later ++ H)
 longer later H = omega (arith, length-append later H)

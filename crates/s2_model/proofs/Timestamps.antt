@@ -1,11 +1,12 @@
 -- The history at a timestamp, and a history with more entries of one actor.
-use Rattle.std.proofs.Common.{◌≡◌, ℕ, ◌+◌, ◌<◌, ◌≤◌, true, false, List, [], ◌∷◌, length, refl, sym, ap, ◌∙◌, arith, ⊎_elim}
+use Rattle.std.proofs.Common.{◌≡◌, ℕ, ◌+◌, ◌<◌, ◌≤◌, true, false, List, [], ◌∷◌, ◌++◌, length, take, get_or, reverse, refl, sym, ap, ◌∙◌, arith, ⊎_elim, length-append}
 use Rattle.std.specs.Prelude.{nat_lt, nat_eq}
 use Rattle.std.proofs.lemmas.Bool.{cases_lt}
+use Rattle.std.proofs.lemmas.List.{take_more, reverse-append}
 use Rattle.std.proofs.lemmas.Bool.Decides.{nat_tests}
 use Rattle.s2_model.specs.declared.entries.Entry.{Entry}
 use Rattle.s2_model.specs.declared.entries.What.{What}
-use Rattle.s2_model.specs.History.{History, ◌▷◌, upto, own, extended}
+use Rattle.s2_model.specs.History.{History, ◌▷◌, history, upto, own, extended}
 
 pub below : (m n : ℕ) → m < n → nat_lt m n ≡ true
 below m n lt = grind (arith, nat_tests)
@@ -45,3 +46,14 @@ pub own-extended : (k : ℕ) (es : List What) (H : History) → own k (extended 
 own-extended k [] H = refl
 own-extended k (w ∷ ws) H =
     own-extended k ws (H ▷ record { actor = k; what = w }) ∙ ap (extended k ws) (rw (same_number k) refl)
+
+-- a history from a slice of entries, the oldest first: one entry more
+pub history_more : (h : List Entry) (i : ℕ) (e : Entry) → i < length h → e ≡ get_or h i e → history (take (i + 1) h) ≡ history (take i h) ▷ e
+history_more h i e lt read =
+    ap reverse (take_more h i e lt ∙ ap (λ x. take i h ++ x ∷ []) (sym read)) ∙ reverse-append (take i h) (e ∷ [])
+
+-- later entries don't stand in an earlier history
+pub upto_later : (r : ℕ) (later H : History) → r ≤ length H → upto r (later ++ H) ≡ upto r H
+upto_later r [] H le = refl
+upto_later r (e ∷ later) H le =
+    upto_past r (later ++ H) e (omega (arith, length-append later H)) ∙ upto_later r later H le

@@ -1,3 +1,4 @@
 pub mod PlainLemmas
 pub mod Turns
 pub mod FirstLines
+pub mod CellLemmas

@@ -1,5 +1,5 @@
 -- What the plain engine answers is the verdict.
-use Rattle.std.proofs.Common.{◌≡◌, ℕ, suc, ◌+◌, Bool, true, false, None, List, [], ◌∷◌, length, refl, sym, ap, subst, ◌∙◌, arith, inl, get_or}
+use Rattle.std.proofs.Common.{◌≡◌, ℕ, suc, ◌+◌, Bool, true, false, Some, None, List, [], ◌∷◌, length, refl, sym, ap, subst, ◌∙◌, arith, inl}
 use Rattle.std.specs.Prelude.{nat_lt, MatchBool, unwrap_or}
 use Rattle.s2_value.specs.declared.schemas.Schema.{Schema}
 use Rattle.s2_model.specs.declared.entries.What.{What}
@@ -18,7 +18,7 @@ use Rattle.s2_model.specs.Driven.{Turn}
 use Rattle.s2_model.proofs.Timestamps.{upto_all}
 use Rattle.s2_sqltext.specs.FirstForm.{every_row, IsFirstStmt}
 use Rattle.s2_run.specs.Plain.{IsPlain, Answered, put_rows, whole_table}
-use Rattle.s2_run.specs.Puts.{Puts, IsPut, IsFull, writes}
+use Rattle.s2_run.specs.Puts.{Puts, IsPut, IsFull, only_row, writes}
 use Rattle.s2_run.proofs.PlainLemmas.{plain_more, ordered_all, kept_all}
 
 -- the content is what session 1 sees
@@ -93,11 +93,16 @@ pub insert_turn : (schema : Schema) (last : ℕ) (H : History) (line : Line) (d 
 insert_turn schema last H line d row last' H' plain session is keyless puts =
     put_turn schema last H line d row last' H' _ refl plain session is keyless puts.at puts.faults puts.done
 
--- the INSERT of a script of the first form
-pub insert_answers : (schema : Schema) (last : ℕ) (H : History) (line : Line) (d : Said) (xs : List RowOf) (row : RowOf) (last' : ℕ) (H' : History)
-    → IsPlain last H → line.session ≡ 1 → line.stmt ≡ Insert xs → IsFirstStmt schema line.stmt → schema.uniques ≡ [] → row ≡ get_or xs 0 row
-    → Puts last H row last' H' d → Answered schema H line H' d × IsPlain last' H'
-insert_answers schema last H line d [] row last' H' plain session is form keyless read puts = absurd (subst (IsFirstStmt schema) is form)
-insert_answers schema last H line d (x ∷ []) row last' H' plain session is form keyless read puts =
-    insert_turn schema last H line d row last' H' plain session (is ∙ ap (λ y. Insert (y ∷ [])) (sym read)) keyless puts
-insert_answers schema last H line d (x ∷ y ∷ ys) row last' H' plain session is form keyless read puts = absurd (subst (IsFirstStmt schema) is form)
+-- what a statement of the first form is
+pub only_insert : (stmt : Stmt) (row : RowOf) → Some row ≡ only_row stmt → stmt ≡ Insert (row ∷ [])
+only_insert (Insert []) row e = absurd (cc)
+only_insert (Insert (x ∷ [])) row e = sym (ap (λ o. Insert (unwrap_or o x ∷ [])) e)
+only_insert (Insert (x ∷ y ∷ xs)) row e = absurd (cc)
+only_insert _ row e = absurd (cc)
+
+pub no_insert : (schema : Schema) (stmt : Stmt) → None ≡ only_row stmt → IsFirstStmt schema stmt → stmt ≡ Select every_row
+no_insert schema (Insert []) e form = absurd form
+no_insert schema (Insert (x ∷ [])) e form = absurd (cc)
+no_insert schema (Insert (x ∷ y ∷ xs)) e form = absurd form
+no_insert schema (Select select) e form = ap Select form
+no_insert schema _ e form = absurd form

@@ -1,8 +1,10 @@
 -- What an INSERT of one row does to the plain engine.
-use Rattle.std.specs.Prelude.{◌≡◌, ℕ, ◌+◌, List, [], ◌∷◌, length, nat_lt, MatchBool}
+use Rattle.std.specs.Prelude.{◌≡◌, ℕ, ◌+◌, List, [], ◌∷◌, Option, Some, None, length, nat_lt, MatchBool}
 use Rattle.s2_model.specs.declared.entries.What.{What}
 use Rattle.s2_model.specs.declared.entries.What.TheVariants.{Write, Commit}
 use Rattle.s2_model.specs.declared.entries.Change.TheVariants.{Put}
+use Rattle.s2_model.specs.declared.statements.Stmt.{Stmt}
+use Rattle.s2_model.specs.declared.statements.Stmt.TheVariants.{Insert}
 use Rattle.s2_model.specs.declared.outcomes.Said.{Said}
 use Rattle.s2_model.specs.declared.replies.Reply.{Reply}
 use Rattle.s2_model.specs.declared.replies.Reply.TheVariants.{Changed, Refused}
@@ -10,6 +12,15 @@ use Rattle.s2_model.specs.declared.replies.Refusal.TheVariants.{LogFull}
 use Rattle.s2_model.specs.Table.{RowOf}
 use Rattle.s2_model.specs.History.{History, extended}
 use Rattle.s2_model.specs.Verdict.{last_length}
+
+-- the row of an INSERT of one row
+abbrev pub only : List RowOf → Option RowOf
+only (row ∷ []) = Some row
+only _ = None
+
+abbrev pub only_row : Stmt → Option RowOf
+only_row (Insert rows) = only rows
+only_row _ = None
 
 -- the entries of one row's INSERT
 abbrev pub writes : ℕ → RowOf → List What

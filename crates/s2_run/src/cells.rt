@@ -55,6 +55,7 @@ fn add_entry(alloc: Global, table: &mut Vec<CellList>, entry: &Entry) -> Result<
 }
 
 /// All rows that the entries put, with all their columns.
+#[tactic(auto, using(crate::proofs::CellLemmas::entries_more))]
 pub fn table_of(alloc: Global, entries: &[Entry]) -> Result<CellTable, Memory>
     ensures { IfOk result (λ table. table ≡ whole_table (put_rows (history entries.now))) }
 {

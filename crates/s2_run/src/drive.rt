@@ -3,6 +3,7 @@ ghost use Rattle.std.specs.Prelude.{◌≡◌, ◌∷◌, [], IfOk, length};
 ghost use Rattle.s2_model.specs.Driven.{IsRightRun, Drives, one_transcript};
 ghost use Rattle.s2_sqltext.specs.FirstForm.{IsFirstForm, IsFirstStmt, AreFirstLines};
 ghost use Rattle.s2_run.specs.Plain.{IsPlain, Answered};
+ghost use Rattle.s2_run.specs.Puts.{only, only_row};
 
 use crate::plain::Plain;
 use s2_model::{
@@ -12,15 +13,23 @@ use s2_model::{
 use s2_value::{Memory, Row, Schema, Seq};
 use std::alloc::Global;
 
-/// The row of an INSERT of one row.
-fn only(rows: RowList) -> Row
-    requires { length rows ≡ 1 }
-    ensures { rows ≡ result ∷ [] }
+fn only(rows: RowList) -> Option<Row>
+    ensures { result ≡ only rows }
 {
-    let mut rows = rows.into_vec();
-    match rows.pop() {
-        Some(row) => row,
-        None => unreachable!(),
+    if rows.len() == 1 {
+        rows.into_vec().pop()
+    } else {
+        None
+    }
+}
+
+/// The row of an INSERT of one row.
+fn only_row(stmt: Stmt) -> Option<Row>
+    ensures { result ≡ only_row stmt }
+{
+    match stmt {
+        Stmt::Insert(rows) => only(rows),
+        _ => None,
     }
 }
 
@@ -32,10 +41,9 @@ fn turn(alloc: Global, plain: &mut Plain, schema: &Schema, line: Line) -> Result
     ensures answered { IfOk result (Answered schema.now plain.old.log line plain.new.log) }
     ensures plain { IfOk result (λ _. IsPlain plain.new.last plain.new.log) }
 {
-    match line.stmt {
-        Stmt::Insert(rows) => plain.insert(alloc, only(rows)),
-        Stmt::Select(_) => plain.select(alloc),
-        _ => unreachable!(),
+    match only_row(line.stmt) {
+        Some(row) => plain.insert(alloc, row),
+        None => plain.select(alloc),
     }
 }
 

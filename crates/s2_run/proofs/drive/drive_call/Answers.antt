@@ -1,5 +1,4 @@
-use Rattle.std.proofs.Common.{List, sym, subst}
-use Rattle.s2_model.specs.declared.scripts.Line.{Line}
+use Rattle.std.proofs.Common.{sym, subst}
 use Rattle.s2_model.specs.History.{History}
 use Rattle.s2_model.specs.Driven.{Drives}
 use Rattle.s2_run.proofs.FirstLines.{simple_lines}
@@ -7,11 +6,11 @@ use Rattle.s2_run.proofs.drive.drive_call.Goals as goal
 
 pub returns : goal.returns
 returns c =
-    let script = c.args.script.now in
+    let script = c.args.script in
     let schema = script.schema in
     let saids = c.in_ok-saids.saids in
     let run = subst (λ (h : History). Drives schema h script.lines saids c.run_lines.new.plain.log) c.new-plain.ensures.empty
-    (subst (λ (l : List Line). Drives schema c.new-plain.result.log l saids c.run_lines.new.plain.log) c.as_slice.ensures c.in_ok-saids.ensures) in
+    c.in_ok-saids.ensures in
     let whole = subst (λ (h : History). Drives schema _ script.lines saids h) (sym c.into_entries-history.ensures) run in
     rw c.in_ok-transcripts.ensures
     (c.simple_runs_are_right.ensures script c.into_entries-history.result saids (simple_lines schema script.lines c.requires.lines) whole)

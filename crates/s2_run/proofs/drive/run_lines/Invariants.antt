@@ -1,5 +1,5 @@
-use Rattle.std.proofs.Common.{List, ◌++◌, length}
-use Rattle.std.specs.Vec.Iter.{into_iter_items}
+use Rattle.std.proofs.Common.{◌≡◌, List, ◌++◌, length}
+use Rattle.std.specs.Vec.Iter.{into_iter_items, into_iter_len}
 use Rattle.s2_model.specs.declared.outcomes.Said.{Said}
 use Rattle.s2_model.specs.History.{History}
 use Rattle.s2_model.specs.Driven.{Drives}
@@ -13,6 +13,7 @@ invariant-loop-line l = record {
   form : AreFirstLines l.schema (into_iter_items l.left);
   joined : (ds : List Said) (whole : History) → Drives l.schema l.plain.log (into_iter_items l.left) ds whole
       → Drives l.schema l.fn.plain.log l.fn.lines (l.saids.items ++ ds) whole;
+  count : into_iter_len l.left ≡ length (into_iter_items l.left);
 }
 
 abbrev pub decreases-loop-line : goal.decreases-loop-line
