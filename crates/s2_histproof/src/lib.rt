@@ -9,6 +9,6 @@ mod replies;
 #[cfg(test)]
 mod tests;
 
-pub use outcomes::print_output;
+pub use outcomes::{print_history, print_output, print_transcripts};
 pub use s2_model::{Outcome, Said, Transcript};
 pub use s2_value::Memory;

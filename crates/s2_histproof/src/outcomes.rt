@@ -1,10 +1,11 @@
 //! How an outcome is written: what each session said, the history, and the end.
-ghost use Rattle.std.specs.Prelude.{◌≡◌, ◌++◌, OnOk, IfOk};
+ghost use Rattle.std.specs.Prelude.{◌≡◌, ◌++◌, OnOk, IfOk, codes};
+ghost use Rattle.std.specs.List.{flat_map};
 ghost use Rattle.s2_model.specs.OutputText.{said_text, transcript_text, history_text, output_text};
 
 use crate::pieces::{Printed, put, put_each, put_field, put_number, put_pair, put_word};
 use crate::replies::put_reply;
-use s2_model::{Entry, Outcome, Said, Transcript};
+use s2_model::{Entry, EntryList, Outcome, Said, Transcript, TranscriptList};
 use s2_value::Memory;
 use std::alloc::Global;
 
@@ -32,17 +33,31 @@ impl Printed for Transcript {
     }
 }
 
-/// The text of an outcome. For each session: `SESSION`, its number, how many statements it has and
-/// its last fault count, then its replies, each after its timestamp and its fault count; an answer's
-/// rows follow their reply, a line each. Then `HISTORY`, how many entries there are, and a line for
-/// each with its actor. Then `END`. Each line ends with a line feed. The `Err` is want of memory.
+/// Adds the text of the sessions: for each `SESSION`, its number, how many statements it has and its last fault count,
+/// then its replies, each after its timestamp and its fault count; an answer's rows follow their reply, a line each.
+/// The `Err` is want of memory.
+pub fn print_transcripts(transcripts: &TranscriptList, out: &mut Vec<u8>) -> Result<(), Memory>
+    ensures { OnOk result (out.new.items ≡ out.old.items ++ flat_map transcript_text transcripts.now) }
+{
+    put_each(out, transcripts.as_slice())
+}
+
+/// Adds the text of the history: `HISTORY`, how many entries there are, and a line for each with its actor; then `END`.
+/// The `Err` is want of memory.
+pub fn print_history(history: &EntryList, out: &mut Vec<u8>) -> Result<(), Memory>
+    ensures { OnOk result (out.new.items ≡ out.old.items ++ (history_text history.now ++ codes "END\n")) }
+{
+    put_history(out, history.as_slice())?;
+    put(out, b"END\n")
+}
+
+/// The text of an outcome: of its sessions, and then of its history. Each line ends with a line feed. The `Err` is want of memory.
 pub fn print_output(alloc: Global, run: &Outcome) -> Result<Vec<u8>, Memory>
     ensures { IfOk result (λ text. text.items ≡ output_text run.now) }
 {
     let mut out = Vec::new(alloc);
-    put_each(&mut out, run.transcripts.as_slice())?;
-    put_history(&mut out, run.history.as_slice())?;
-    put(&mut out, b"END\n")?;
+    print_transcripts(&run.transcripts, &mut out)?;
+    print_history(&run.history, &mut out)?;
     Ok(out)
 }
 

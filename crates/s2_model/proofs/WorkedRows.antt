@@ -22,13 +22,17 @@ use Rattle.s2_model.specs.Notes.{placement_note}
 use Rattle.s2_model.specs.declared.predicates.Op.TheVariants.{Eq, Gt, Le, Lt}
 use Rattle.s2_model.specs.declared.predicates.Pred.{Pred}
 use Rattle.s2_model.specs.declared.predicates.Pred.TheVariants.{All, Cmp, Not'}
-use Rattle.s2_model.specs.declared.replies.Refusal.TheVariants.{Overtaken, ReadFault}
-use Rattle.s2_model.specs.declared.replies.Reply.TheVariants.{Late, Merged, Nothing, Refused}
-use Rattle.s2_model.specs.declared.statements.Items.TheVariants.{Star}
+use Rattle.s2_model.specs.declared.replies.Refusal.TheVariants.{Locked, Overtaken, ReadFault}
+use Rattle.s2_model.specs.declared.replies.Reply.TheVariants.{Changed, Rows, Late, Merged, Nothing, Refused}
+use Rattle.s2_model.specs.declared.statements.Items.TheVariants.{Star, Columns, Aggs}
+use Rattle.s2_model.specs.declared.statements.Agg.TheVariants.{Count, Sum}
+use Rattle.s2_model.specs.declared.statements.SetExpr.TheVariants.{Given, Plus}
+use Rattle.s2_model.specs.declared.replies.Cell.TheVariants as cell
 use Rattle.s2_model.specs.declared.statements.Stmt.{Stmt}
-use Rattle.s2_model.specs.declared.statements.Stmt.TheVariants.{Insert, FlushEnd, MergeEnd, Flush as FlushStmt, Merge as MergeStmt, Select as SelectStmt}
+use Rattle.s2_model.specs.declared.statements.Stmt.TheVariants.{Insert, Update, FlushEnd, MergeEnd, Flush as FlushStmt, Merge as MergeStmt, Select as SelectStmt}
 use Rattle.s2_model.specs.Needed.{needed, counts_as_evicted, FaultsBy, holds_hash}
 use Rattle.s2_model.specs.Background.{WorksAs}
+use Rattle.s2_model.specs.Verdict.{verdict, makes, says, refused}
 
 infixr 30 ◌does◌
 abbrev ◌does◌ : ℕ → What → Entry
@@ -289,6 +293,24 @@ move_once_fits = (
 move_once_placed : placed_rows 10 move_once ≡ (1, numbers 1 12) ∷ []
 move_once_placed = refl
 
+-- the update of a row in a segment moves it first, another session's is refused, and after the ROLLBACK nothing is moved again
+
+abbrev set_v : ℕ → Stmt
+set_v n = Update ((1, Given (Int (pos n))) ∷ []) All
+
+move_once_moves : verdict int_columns (upto 4 move_once) 1 (set_v 11) ≡ makes (Changed 1) (Move ((1, 0) ∷ []) ∷ Write (Put 1 (numbers 1 11) ∷ []) ∷ [])
+unfolding sessions
+move_once_moves = refl
+
+move_once_locked : verdict int_columns (upto 6 move_once) 2 (set_v 12) ≡ refused (Locked 1 1)
+unfolding sessions
+move_once_locked = refl
+
+move_once_again : verdict int_columns (upto 7 move_once) 2 (Update ((1, Plus 1 (pos 2)) ∷ []) All)
+    ≡ makes (Changed 1) (Write (Put 1 (numbers 1 12) ∷ []) ∷ Commit ∷ [])
+unfolding sessions
+move_once_again = refl
+
 -- two mergers: the second finds its inputs dead
 
 abbrev two_mergers : History
@@ -383,6 +405,19 @@ orders_fits = (
 
 orders_placed : by_number (placed_rows 6 orders) ≡ state orders
 orders_placed = refl
+
+orders_update : verdict orders_table (upto 3 orders) 2 (Update ((2, Given (Text (codes "paid"))) ∷ []) (Cmp 0 Eq (Int (pos 1002))))
+    ≡ makes (Changed 1) (Move ((1, 0) ∷ []) ∷ Write (Put 2 (order_row 1002 (codes "ink") (codes "paid") 990) ∷ []) ∷ Commit ∷ [])
+unfolding sessions
+orders_update = refl
+
+orders_sums : verdict orders_table orders 2 (SelectStmt (record { items = Aggs (Count ∷ Sum 3 ∷ []); pred = All; order = []; limit = None }))
+    ≡ says (Rows ((cell.Int (pos 2) ∷ cell.Int (pos 1240) ∷ []) ∷ []))
+orders_sums = refl
+
+orders_by_key : verdict orders_table orders 2 (SelectStmt (record { items = Columns (1 ∷ []); pred = Cmp 0 Eq (Int (pos 1001)); order = []; limit = None }))
+    ≡ says (Rows ((cell.Text (codes "pen") ∷ []) ∷ []))
+orders_by_key = refl
 
 -- a segment that is evicted, and a predicate that doesn't admit it
 

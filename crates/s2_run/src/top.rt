@@ -8,8 +8,8 @@ ghost use Rattle.s2_sqltext.specs.FirstForm.{IsFirstForm};
 
 use crate::texts::{status_of, text_of};
 use crate::{Ending, drive_call};
-use s2_histproof::print_output;
-use s2_model::Script;
+use s2_histproof::{print_history, print_transcripts};
+use s2_model::{Outcome, Script};
 use s2_outside::{ReadStop, Sink, Source, read_all, write_all};
 use s2_sqltext::{ScriptFault, read_script};
 use s2_value::Memory;
@@ -36,8 +36,15 @@ fn run_script(alloc: Global, script: Script) -> Result<Vec<u8>, Memory>
     requires { IsFirstForm script }
     ensures { IfOk result (λ text. IsTextOf script text.items) }
 {
-    let outcome = drive_call(alloc, script)?;
-    print_output(alloc, &outcome)
+    let Outcome {
+        history,
+        transcripts,
+    } = drive_call(alloc, script)?;
+    let mut text = Vec::new(alloc);
+    print_transcripts(&transcripts, &mut text)?;
+    drop(transcripts);
+    print_history(&history, &mut text)?;
+    Ok(text)
 }
 
 fn run_text(alloc: Global, text: Vec<u8>) -> Ending
