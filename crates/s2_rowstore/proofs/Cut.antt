@@ -4,15 +4,12 @@ use Rattle.std.specs.List.{list_all}
 use Rattle.std.specs.Map.Calls.{RetainsPairs}
 use Rattle.std.proofs.lemmas.Bool.{false≢true}
 use Rattle.s2_rowstore.specs.Chains.{Line, Body, body, empty_line, kept, is_empty_body}
-use Rattle.s2_rowstore.specs.Lines.{for_row, body_at}
+use Rattle.s2_rowstore.specs.Lines.{for_row, body_at, cut_body}
 use Rattle.s2_rowstore.specs.Visible.{are_rising, numbers}
 use Rattle.s2_rowstore.proofs.Steps.{both}
 use Rattle.s2_rowstore.proofs.Rising.{absent, lookup_for_row}
 
-abbrev pub cut_body : ℕ → Body → Body
-cut_body h b = (kept h b.0, b.1)
-
-empty_from : (b : Body) → is_empty_body b ≡ true → b ≡ ([], None)
+pub empty_from : (b : Body) → is_empty_body b ≡ true → b ≡ ([], None)
 empty_from ([], None) e = refl
 empty_from ([], Some s) e = absurd (false≢true e)
 empty_from (v ∷ vs, o) e =

@@ -1,8 +1,11 @@
 pub mod Cut
+pub mod Ended
 pub mod Found
 pub mod Kept
 pub mod Noted
 pub mod Prepared
 pub mod Put
+pub mod Queue
 pub mod Rising
+pub mod Stands
 pub mod Steps

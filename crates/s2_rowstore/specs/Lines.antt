@@ -5,7 +5,7 @@ use Rattle.std.specs.Map.{lookup}
 use Rattle.std.specs.Ordering.{nat_cmp}
 use Rattle.std.specs.BTreeMap.{is_at}
 use Rattle.s2_value.specs.declared.values.Value.{Value}
-use Rattle.s2_rowstore.specs.Chains.{Line, Body, body, empty_line, begun, chain_after, slot_after, own}
+use Rattle.s2_rowstore.specs.Chains.{Line, Body, body, empty_line, begun, chain_after, slot_after, own, kept}
 
 -- the line of a row
 abbrev pub line_at : List (ℕ × Line) → ℕ → Line
@@ -49,3 +49,7 @@ committed k t b = (chain_after t (own k b.1) b.0, slot_after k b.1)
 -- k's open write is forgotten
 abbrev pub undone : ℕ → Body → Body
 undone k b = (b.0, slot_after k b.1)
+
+-- the versions that ended at or before h are forgotten
+abbrev pub cut_body : ℕ → Body → Body
+cut_body h b = (kept h b.0, b.1)

@@ -1,5 +1,5 @@
 -- What contracts see of a row store.
-use Rattle.std.specs.Prelude.{◌≡◌, ◌<◌, ℕ, Bool, true, length, List, [], Option, None, Some, is_some, slice_index_or}
+use Rattle.std.specs.Prelude.{◌≡◌, ◌<◌, ℕ, Bool, true, ◌&&◌, nat_lt, length, List, [], Option, None, Some, is_some, slice_index_or}
 use Rattle.std.specs.List.{list_all}
 use Rattle.std.specs.BTreeMap.{BTreeMap}
 use Rattle.std.specs.BTreeSet.{BTreeSet}
@@ -11,6 +11,8 @@ use Rattle.s2_rowstore.specs.declared.chain.Slot.{Slot}
 use Rattle.s2_rowstore.specs.Chains.{Line, own}
 use Rattle.s2_rowstore.specs.Lines.{body_at, names_row}
 use Rattle.s2_rowstore.specs.Keys.{body_has, noted_at, ids_of}
+use Rattle.s2_rowstore.specs.Ends.{Ends, AreQueued}
+use Rattle.s2_rowstore.specs.Present.{ArePresent, is_free}
 
 -- the schema that it was made for, and the rows' lines
 pub record Store : Type 0 where
@@ -33,6 +35,10 @@ places_of schema j = slice_index_or (keys_of schema) j []
 unfoldable pub has_key : Store → ℕ → List Value → ℕ → Bool
 has_key S j q n = body_has (places_of S.schema j) q (body_at S.lines n)
 
+-- whether the row is above a number, has a living version that began by r, and no open write
+unfoldable pub can_take : Store → ℕ → ℕ → ℕ → Bool
+can_take S from r n = nat_lt from n && is_free r (body_at S.lines n)
+
 -- each key of a version or an open write is noted
 abbrev pub IsPosted : Schema → List (BTreeMap (List Value) (BTreeSet ℕ)) → List (ℕ × Line) → Type 0
 IsPosted schema notes lines = (j : ℕ) (q : List Value) (n : ℕ) → j < length (keys_of schema) → body_has (places_of schema j) q (body_at lines n) ≡ true → noted_at notes j q n ≡ true
@@ -41,11 +47,13 @@ IsPosted schema notes lines = (j : ℕ) (q : List Value) (n : ℕ) → j < lengt
 abbrev pub IsListed : List (BTreeSet ℕ) → List (ℕ × Line) → Type 0
 IsListed changed lines = (k n : ℕ) → k < 17 → is_some (own k (body_at lines n).1) ≡ true → names_row (ids_of changed k) n ≡ true
 
-pub record IsKept (schema : Schema) (notes : List (BTreeMap (List Value) (BTreeSet ℕ))) (changed : List (BTreeSet ℕ)) (lines : List (ℕ × Line)) : Type 0 where
+pub record IsKept (schema : Schema) (notes : List (BTreeMap (List Value) (BTreeSet ℕ))) (changed : List (BTreeSet ℕ)) (ids : List ℕ) (E : Ends) (lines : List (ℕ × Line)) : Type 0 where
   pub keys : length notes ≡ length (keys_of schema)
   pub actors : length changed ≡ 17
   pub posted : IsPosted schema notes lines
   pub listed : IsListed changed lines
+  pub present : ArePresent ids lines
+  pub queued : AreQueued E lines
 
 -- each row fits the schema
 abbrev pub rows_fit : Schema → List (ℕ × List Value) → Bool

@@ -3,6 +3,7 @@ ghost use Rattle.std.specs.Prelude.{◌≡◌, ◌<◌, ◌≤◌, ℕ, ◌++◌
 ghost use Rattle.std.specs.Option.{option_copied, option_map};
 ghost use Rattle.std.specs.List.{list_any};
 ghost use Rattle.s2_rowstore.specs.Keys.{row_has, slot_has, body_has};
+ghost use Rattle.s2_rowstore.specs.Present.{is_present, is_free};
 ghost use Rattle.s2_rowstore.specs.Chains.{body, row_at, is_visible, is_living, living_since, ended, begun, own, chain_after, slot_after, seen, end_version, kept, is_done, is_empty_body};
 
 use crate::notes::row_has;
@@ -244,6 +245,23 @@ impl Chain {
                 },
             ) => row_has(places, key, row.as_slice()),
             _ => false,
+        }
+    }
+
+    /// Whether there is a living version or an open write.
+    pub(crate) fn is_present(&self) -> bool
+        ensures { result ≡ is_present (body self.now) }
+    {
+        self.living_since().is_some() || self.slot.is_some()
+    }
+
+    /// Whether there is a living version that began by `r`, and no open write.
+    pub(crate) fn is_free(&self, r: u64) -> bool
+        ensures { result ≡ is_free r (body self.now) }
+    {
+        match self.living_since() {
+            Some(begin) => begin <= r && self.slot.is_none(),
+            None => false,
         }
     }
 

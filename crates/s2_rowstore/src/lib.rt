@@ -3,8 +3,10 @@
 
 mod chain;
 mod copies;
+mod ends;
 mod lines;
 mod notes;
+mod present;
 mod ready;
 mod store;
 

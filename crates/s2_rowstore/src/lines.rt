@@ -1,16 +1,18 @@
 // The lines of all rows, by row number.
-ghost use Rattle.std.specs.Prelude.{◌≡◌, ◌<◌, ◌≤◌, ℕ, ◌++◌, ◌-◌, [], None, Some, OnOk, OnErr, is_some, false, true, vec_len, ◌==◌, if◌then◌else◌};
+ghost use Rattle.std.specs.Prelude.{◌≡◌, ◌<◌, ◌≤◌, ℕ, ◌++◌, ◌-◌, [], None, Some, OnOk, OnErr, is_some, not, false, true, vec_len, ◌==◌, if◌then◌else◌};
 ghost use Rattle.std.specs.Option.{option_copied, option_map};
-ghost use Rattle.s2_rowstore.specs.Chains.{body, own, seen, living_since, ended, begun, kept};
+ghost use Rattle.s2_rowstore.specs.Chains.{body, is_empty_body, own, seen, living_since, ended, begun, kept};
 ghost use Rattle.std.specs.Prelude.{IfOk};
 ghost use Rattle.std.specs.List.{filter};
 ghost use Rattle.s2_rowstore.specs.Keys.{body_has};
 ghost use Rattle.std.specs.Ordering.{nat_cmp};
 ghost use Rattle.std.specs.List.Sorted.{IsStrictlySortedBy};
 ghost use Rattle.s2_rowstore.specs.Visible.{visible_in, numbers};
-ghost use Rattle.s2_rowstore.specs.Lines.{line_at, body_at, for_row, names_row, are_apart, have_room, with_begun, with_slot, committed, undone};
+ghost use Rattle.s2_rowstore.specs.Lines.{line_at, body_at, for_row, names_row, are_apart, have_room, with_begun, with_slot, committed, undone, cut_body};
+ghost use Rattle.s2_rowstore.specs.Ends.{AreQueued};
 
 use crate::chain::{Chain, Slot};
+use crate::ends::Ends;
 use s2_value::{Duplicate, Memory, Row, Seq, TableRows, Value};
 use std::alloc::Global;
 use std::collections::{BTreeMap, BTreeSet};
@@ -204,9 +206,62 @@ pub(crate) fn rows_with_key(
     Ok(found)
 }
 
-/// Forgets the versions that ended at or before `h`, and the rows of which nothing is left.
-pub(crate) fn cut_lines(lines: &mut Lines, h: u64)
+// Forgets the versions that ended at or before `h`, and the rows of which nothing is left, by a walk over all rows.
+fn cut_lines(lines: &mut Lines, h: u64)
     ensures { (n : ℕ) → body_at lines.new.entries n ≡ (kept h (body_at lines.old.entries n).0, (body_at lines.old.entries n).1) }
 {
     lines.retain(|_, chain| chain.cut(h));
+}
+
+// Forgets the versions of the row that ended at or before `h`, and answers whether something is left.
+fn cut_chain(lines: &mut Lines, id: u64, h: u64) -> bool
+    ensures after { (n : ℕ) → body_at lines.new.entries n ≡ (if id == n then cut_body h (body_at lines.old.entries n) else body_at lines.old.entries n) }
+    ensures left { result ≡ not (is_empty_body (body_at lines.new.entries id)) }
+{
+    match lines.get_mut(&id) {
+        Some(chain) => chain.cut(h),
+        None => false,
+    }
+}
+
+// Forgets a row of which nothing is left.
+fn drop_line(lines: &mut Lines, id: u64)
+    requires { is_empty_body (body_at lines.old.entries id) ≡ true }
+    ensures { (n : ℕ) → body_at lines.new.entries n ≡ body_at lines.old.entries n }
+{
+    let _ = lines.remove(&id);
+}
+
+// Forgets the versions of the row that ended at or before `h`, and the row where nothing is left.
+fn cut_line(lines: &mut Lines, id: u64, h: u64)
+    ensures { (n : ℕ) → body_at lines.new.entries n ≡ (if id == n then cut_body h (body_at lines.old.entries n) else body_at lines.old.entries n) }
+{
+    if !cut_chain(lines, id, h) {
+        drop_line(lines, id);
+    }
+}
+
+// Forgets the versions that ended at or before `h`, where each is queued.
+fn cut_ended(lines: &mut Lines, ends: &mut Ends, h: u64)
+    requires whole { ends.old.whole ≡ true }
+    requires queued { AreQueued ends.old lines.old.entries }
+    ensures cut { (n : ℕ) → body_at lines.new.entries n ≡ cut_body h (body_at lines.old.entries n) }
+    ensures queued { AreQueued ends.new lines.new.entries }
+{
+    while let Some(id) = ends.pop(h) {
+        cut_line(lines, id, h);
+    }
+}
+
+/// Forgets the versions that ended at or before `h`: those of the queue, and where it isn't whole, by a walk over all rows.
+pub(crate) fn cut_rows(lines: &mut Lines, ends: &mut Ends, h: u64)
+    requires { AreQueued ends.old lines.old.entries }
+    ensures cut { (n : ℕ) → body_at lines.new.entries n ≡ cut_body h (body_at lines.old.entries n) }
+    ensures queued { AreQueued ends.new lines.new.entries }
+{
+    if ends.is_whole() {
+        cut_ended(lines, ends, h);
+    } else {
+        cut_lines(lines, h);
+    }
 }

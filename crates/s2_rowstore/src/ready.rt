@@ -9,7 +9,8 @@ ghost use Rattle.s2_rowstore.specs.Store.{rows_fit, changes_fit};
 ghost use Rattle.s2_rowstore.specs.Prepared.{IsReady, IsReadyChange, SameBodies, KeepsRoom};
 
 use crate::lines::{Lines, reserve_line};
-use crate::notes::{Notes, note_row, put_id};
+use crate::notes::{Notes, note_row};
+use crate::present::add_id;
 use s2_value::{Memory, Row, Schema};
 use std::alloc::Global;
 use std::collections::BTreeSet;
@@ -78,12 +79,4 @@ pub(crate) fn ready_changes(
         add_id(ids, *id)?;
     }
     Ok(())
-}
-
-// Puts the row number among these.
-fn add_id(ids: &mut BTreeSet<u64>, id: u64) -> Result<(), Memory>
-    ensures kept { (n : ℕ) → names_row ids.old.keys n ≡ true → names_row ids.new.keys n ≡ true }
-    ensures added { OnOk result (names_row ids.new.keys id ≡ true) }
-{
-    put_id(ids, id)
 }

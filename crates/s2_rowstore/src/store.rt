@@ -1,19 +1,22 @@
 // The row store.
-ghost use Rattle.std.specs.Prelude.{◌≡◌, ◌<◌, ◌≤◌, ℕ, ◌++◌, [], None, Some, OnOk, OnErr, IfOk, true, vec_len, length, List, if◌then◌else◌, ◌==◌};
+ghost use Rattle.std.specs.Prelude.{◌≡◌, ◌<◌, ◌≤◌, ℕ, ◌++◌, [], None, Some, OnOk, OnErr, IfOk, true, is_some, vec_len, length, List, if◌then◌else◌, ◌==◌};
 ghost use Rattle.std.specs.Option.{option_copied, option_map};
 ghost use Rattle.s2_rowstore.specs.Chains.{own, chain_after, slot_after, living_since, ended, begun, seen, kept};
-ghost use Rattle.s2_rowstore.specs.Store.{chain, slot, rows_fit, changes_fit, slot_put, has_key};
+ghost use Rattle.s2_rowstore.specs.Store.{chain, slot, rows_fit, changes_fit, slot_put, has_key, can_take};
+ghost use Rattle.s2_rowstore.specs.Present.{AreFirst};
 ghost use Rattle.s2_value.specs.Schemas.{keys_of};
 ghost use Rattle.s2_rowstore.specs.Lines.{for_row, are_apart, names_row};
 ghost use Rattle.s2_rowstore.specs.Visible.{are_rising, numbers};
 
 use crate::chain::{Slot, Version};
 use crate::copies::copy_schema;
+use crate::ends::{Ends, push_all};
 use crate::lines::{
-    Lines, begin_all, commit_all, cut_lines, end_line, put_all, row_since, rows_with_key, seen_row,
+    Lines, begin_all, commit_all, cut_rows, end_line, put_all, row_since, rows_with_key, seen_row,
     undo_all, visible_rows,
 };
 use crate::notes::Notes;
+use crate::present::{changed_rows, drop_absent, drop_all_absent, first_free, list_rows};
 use crate::ready::{ready_changes, ready_rows};
 use s2_value::{Key, Memory, Row, Schema, TableRows};
 use std::alloc::Global;
@@ -32,6 +35,10 @@ pub struct Rowstore {
     notes: Vec<Notes>,
     // By each actor, the numbers of the rows that it has an open write of.
     changed: Vec<BTreeSet<u64>>,
+    // The numbers of the rows that have a living version or an open write.
+    present: BTreeSet<u64>,
+    // The versions that ended, by the time of their end.
+    ends: Ends,
 }
 
 impl Model for Rowstore {
@@ -41,7 +48,7 @@ impl Model for Rowstore {
 
     ghost view = { λ s. record { schema = s.schema; lines = s.lines.entries } };
 
-    ghost invariant = { λ s. IsKept s.schema s.notes.items s.changed.items s.lines.entries };
+    ghost invariant = { λ s. IsKept s.schema s.notes.items s.changed.items s.present.keys s.ends s.lines.entries };
 }
 
 fn no_notes(alloc: Global, count: usize) -> Result<Vec<Notes>, Memory>
@@ -80,6 +87,8 @@ impl Rowstore {
             lines: BTreeMap::new(alloc),
             notes,
             changed,
+            present: BTreeSet::new(alloc),
+            ends: Ends::new(alloc),
         })
     }
 
@@ -109,6 +118,8 @@ impl Rowstore {
     {
         let ids = &mut self.changed[actor as usize];
         commit_all(&mut self.lines, ids, actor, time);
+        push_all(&mut self.ends, ids, time);
+        drop_all_absent(&mut self.present, &self.lines, ids);
         ids.clear();
     }
 
@@ -122,6 +133,7 @@ impl Rowstore {
     {
         let ids = &mut self.changed[actor as usize];
         undo_all(&mut self.lines, ids, actor);
+        drop_all_absent(&mut self.present, &self.lines, ids);
         ids.clear();
     }
 
@@ -133,6 +145,8 @@ impl Rowstore {
         ensures slots { (n : ℕ) → slot self.new n ≡ slot self.old n }
     {
         end_line(&mut self.lines, id, time);
+        self.ends.push(time, id);
+        drop_absent(&mut self.present, &self.lines, id);
     }
 
     /// Begins a version of each of the rows at `time`.
@@ -145,6 +159,7 @@ impl Rowstore {
         ensures slots { (n : ℕ) → slot self.new n ≡ slot self.old n }
         ensures memory { OnErr result ((n : ℕ) → chain self.new n ≡ chain self.old n) }
     {
+        list_rows(&mut self.present, &mut self.ends, rows.as_slice())?;
         let notes = self.notes.as_mut_slice();
         ready_rows(&mut self.lines, notes, alloc, &self.schema, rows.as_slice())?;
         begin_all(&mut self.lines, rows, time);
@@ -167,6 +182,7 @@ impl Rowstore {
         ensures slots { OnOk result ((n : ℕ) → slot self.new n ≡ slot_put actor (for_row changes.items n) (slot self.old n)) }
         ensures memory { OnErr result ((n : ℕ) → slot self.new n ≡ slot self.old n) }
     {
+        list_rows(&mut self.present, &mut self.ends, changes.as_slice())?;
         let ids = &mut self.changed[actor as usize];
         let notes = self.notes.as_mut_slice();
         ready_changes(
@@ -188,6 +204,30 @@ impl Rowstore {
         ensures rising { IfOk result (λ rows. are_rising (numbers rows) ≡ true) }
     {
         visible_rows(&self.lines, alloc, actor, r)
+    }
+
+    /// The numbers of the rows, rising, of which the actor has an open write.
+    #[tactic(auto, unfolding(crate::specs::Store::chain, crate::specs::Store::slot))]
+    pub fn changed(&self, alloc: Global, actor: u8) -> Result<Vec<u64>, Memory>
+        requires { actor < 17 }
+        ensures rows { IfOk result (λ ids. (n : ℕ) → names_row ids.items n ≡ is_some (own actor (slot self.now n))) }
+        ensures rising { IfOk result (λ ids. are_rising ids.items ≡ true) }
+    {
+        changed_rows(&self.lines, alloc, &self.changed[actor as usize], actor)
+    }
+
+    /// The numbers, rising, of the first rows above `from` that have a living version which began by `r` and no open write, at most `most` of them.
+    #[tactic(auto, unfolding(crate::specs::Store::can_take))]
+    pub fn take_after(
+        &self,
+        alloc: Global,
+        from: u64,
+        r: u64,
+        most: usize,
+    ) -> Result<Vec<u64>, Memory>
+        ensures { IfOk result (λ ids. AreFirst most (can_take self.now from r) ids.items) }
+    {
+        first_free(&self.lines, alloc, &self.present, from, r, most)
     }
 
     /// The numbers of the rows, rising, of which some kept version or open write has the key `j`: unique keys, then indexes, from 0.
@@ -218,6 +258,6 @@ impl Rowstore {
         ensures chains { (n : ℕ) → chain self.new n ≡ kept h (chain self.old n) }
         ensures slots { (n : ℕ) → slot self.new n ≡ slot self.old n }
     {
-        cut_lines(&mut self.lines, h);
+        cut_rows(&mut self.lines, &mut self.ends, h);
     }
 }

@@ -1,3 +1,5 @@
 pub mod SlowHistories
 pub mod SlowTables
 pub mod SlowAnswers
+pub mod SlowNotes
+pub mod SlowMoves

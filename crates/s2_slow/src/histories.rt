@@ -1,8 +1,10 @@
 //! What a history says: open writes, content, and views.
 ghost use Rattle.std.specs.Prelude.{◌≡◌, ◌≤◌, ◌++◌, IfOk, IfSome, OnOk, None, length};
-ghost use Rattle.s2_model.specs.History.{history, upto, pending_after, pending, pin_after, pin_of, state_after, state, seen_at, view};
+ghost use Rattle.s2_model.specs.History.{history, upto, running_after, is_running, pending_after, pending, pin_after, pin_of, state_after, state, seen_at, view, greatest_in, greatest};
+ghost use Rattle.s2_model.specs.Held.{sessions};
 
 use crate::tables::apply;
+use crate::versions::number_of;
 use s2_model::{Change, ChangeList, Entry, What};
 use s2_value::{Duplicate, Memory, Row, Seq, TableRows};
 use std::alloc::Global;
@@ -58,8 +60,9 @@ fn state_after(
     Ok(())
 }
 
+/// The content after the entries, the oldest first.
 #[tactic(auto, using(crate::proofs::SlowHistories::history_more))]
-fn whole_state(alloc: Global, h: &[Entry]) -> Result<Vec<(u64, Row)>, Memory>
+pub fn whole_state(alloc: Global, h: &[Entry]) -> Result<Vec<(u64, Row)>, Memory>
     ensures { IfOk result (λ rows. rows.items ≡ state (history h.now)) }
 {
     let mut rows = Vec::new(alloc);
@@ -97,6 +100,31 @@ pub fn pin_of(h: &[Entry], actor: u8) -> Option<usize>
     pin
 }
 
+fn running_after(what: &What, was: bool) -> bool
+    ensures { result ≡ running_after what.now was }
+{
+    match what {
+        What::Begin => true,
+        What::Commit => false,
+        What::Rollback => false,
+        _ => was,
+    }
+}
+
+/// Whether a transaction that writes is open: from its BEGIN to its COMMIT or ROLLBACK.
+#[tactic(auto, using(crate::proofs::SlowHistories::history_more))]
+pub fn is_running(h: &[Entry], actor: u8) -> bool
+    ensures { result ≡ is_running (history h.now) actor }
+{
+    let mut running = false;
+    for entry in h {
+        if entry.actor == actor {
+            running = running_after(&entry.what, running);
+        }
+    }
+    running
+}
+
 fn open_view(alloc: Global, h: &[Entry], actor: u8) -> Result<Vec<(u64, Row)>, Memory>
     ensures { IfOk result (λ rows. rows.items ≡ seen_at None (history h.now) actor) }
 {
@@ -114,4 +142,38 @@ pub fn view(alloc: Global, h: &[Entry], actor: u8) -> Result<TableRows, Memory>
         Some(r) => state(alloc, h, r),
         None => Ok(Seq::from_vec(open_view(alloc, h, actor)?)),
     }
+}
+
+/// The sessions.
+#[tactic(auto, unfolding(s2_model::specs::Held::sessions))]
+pub fn sessions() -> [u8; 16]
+    ensures { result ≡ sessions }
+{
+    [1, 2, 3, 4, 5, 6, 7, 8, 9, 10, 11, 12, 13, 14, 15, 16]
+}
+
+fn greatest_in(changes: &[Change], was: u64) -> u64
+    ensures { result ≡ greatest_in changes.now was }
+{
+    let mut greatest = was;
+    let mut left = changes;
+    while let [change, rest @ ..] = left {
+        greatest = greatest.max(number_of(change));
+        left = rest;
+    }
+    greatest
+}
+
+/// The greatest row number in any WRITE, 0 where there is none.
+#[tactic(auto, using(crate::proofs::SlowHistories::history_more))]
+pub fn greatest(h: &[Entry]) -> u64
+    ensures { result ≡ greatest (history h.now) }
+{
+    let mut most = 0;
+    for entry in h {
+        if let What::Write(changes) = &entry.what {
+            most = greatest_in(changes.as_slice(), most);
+        }
+    }
+    most
 }

@@ -1,29 +1,33 @@
-use Rattle.std.proofs.Common.{ℕ, List, Option, All, sym, subst, rules, slice_set}
+use Rattle.std.proofs.Common.{◌≡◌, ℕ, List, Option, All, true, sym, subst, rules, slice_set}
 use Rattle.std.specs.BTreeMap.{BTreeMap}
 use Rattle.std.specs.BTreeSet.{BTreeSet}
 use Rattle.std.proofs.lemmas.List.{take_at}
 use Rattle.s2_value.specs.declared.values.Value.{Value}
+use Rattle.s2_rowstore.specs.Lines.{names_row}
 use Rattle.s2_rowstore.specs.Keys.{KeepsNotes}
 use Rattle.s2_rowstore.specs.Prepared.{IsReadyChange}
 use Rattle.s2_rowstore.specs.Store.{IsKept}
 use Rattle.s2_rowstore.proofs.Kept.{actors_stay}
 use Rattle.s2_rowstore.proofs.Prepared.{room_from, change_rooms}
 use Rattle.s2_rowstore.proofs.Put.{posted_more, posted_put, listed_put, listed_more, listed_same}
+use Rattle.s2_rowstore.proofs.Ended.{queued_put, queued_same}
+use Rattle.s2_rowstore.proofs.Stands.{still_put, still_same}
 use Rattle.s2_rowstore.proofs.store.Rowstore.put_slots.Goals as goal
 
 pub put_all-requires-clause-room : goal.put_all-requires-clause-room
 put_all-requires-clause-room c =
     let Q : List (ℕ × Option (List Value)) → Type 0 = λ changes. All (IsReadyChange c.self.inside.schema c.ready_changes.new.notes c.ready_changes.new.lines.entries c.ready_changes.new.ids.keys) changes in
-    room_from 0 _ c.args.changes.items (change_rooms c.self.inside.schema c.ready_changes.new.notes _ _ _ (subst Q c.as_slice.ensures.value c.in_ok-ready_changes.ensures.ready))
+    room_from 0 _ c.args.changes.items (change_rooms c.self.inside.schema c.ready_changes.new.notes _ _ _ (subst Q c.as_slice-2.ensures.value c.in_ok-ready_changes.ensures.ready))
 
-pub invariant_of-self : goal.invariant_of-self
-invariant_of-self c =
+pub invariant_of-self-in_err-ready_changes : goal.invariant_of-self-in_err-ready_changes
+invariant_of-self-in_err-ready_changes c =
     let schema = c.self.inside.schema in
     let old = c.self.inside.lines.entries in
     let mid = c.ready_changes.new.lines.entries in
     let notes = c.ready_changes.new.notes in
     let ids = c.ready_changes.new.ids in
-    let P : List (BTreeMap (List Value) (BTreeSet ℕ)) → Type 0 = λ ns. IsKept schema ns (slice_set c.self.inside.changed.items c.args.actor ids) mid in
+    let present = c.list_rows.new.ids.keys in
+    let P : List (BTreeMap (List Value) (BTreeSet ℕ)) → Type 0 = λ ns. IsKept schema ns (slice_set c.self.inside.changed.items c.args.actor ids) present c.list_rows.new.ends mid in
     let K : List (BTreeMap (List Value) (BTreeSet ℕ)) → Type 0 = λ ns. KeepsNotes ns notes in
     let more = subst K c.as_mut_slice-notes.ensures.value c.ready_changes.ensures.notes in
     let kept : P notes = record {
@@ -31,6 +35,8 @@ invariant_of-self c =
       actors = actors_stay c.self.inside.changed.items c.args.actor ids c.self.invariant.actors;
       posted = posted_more schema c.self.inside.notes.items notes old mid c.ready_changes.ensures.same more c.self.invariant.posted;
       listed = listed_more c.self.inside.changed.items c.args.actor c.index_mut-ids.result.now ids old mid c.requires.actor c.self.invariant.actors c.index_mut-ids.ensures.value c.ready_changes.ensures.ids c.ready_changes.ensures.same c.self.invariant.listed;
+      queued = queued_same c.self.inside.ends c.list_rows.new.ends old mid c.list_rows.ensures.ends c.ready_changes.ensures.same c.self.invariant.queued;
+      present = still_same c.self.inside.present.keys present old mid c.list_rows.ensures.kept c.ready_changes.ensures.same c.self.invariant.present;
     } in
     subst P (sym (take_at notes _ _ (search rules))) kept
 
@@ -42,11 +48,14 @@ invariant_of-self-2 c =
     let new = c.put_all.new.lines.entries in
     let notes = c.ready_changes.new.notes in
     let ids = c.ready_changes.new.ids in
+    let present = c.list_rows.new.ids.keys in
     let was = c.index_mut-ids.result.now in
-    let P : List (BTreeMap (List Value) (BTreeSet ℕ)) → Type 0 = λ ns. IsKept schema ns (slice_set c.self.inside.changed.items c.args.actor ids) new in
+    let P : List (BTreeMap (List Value) (BTreeSet ℕ)) → Type 0 = λ ns. IsKept schema ns (slice_set c.self.inside.changed.items c.args.actor ids) present c.list_rows.new.ends new in
     let K : List (BTreeMap (List Value) (BTreeSet ℕ)) → Type 0 = λ ns. KeepsNotes ns notes in
     let Q : List (ℕ × Option (List Value)) → Type 0 = λ changes. All (IsReadyChange schema notes mid ids.keys) changes in
-    let ready = subst Q c.as_slice.ensures.value c.in_ok-ready_changes.ensures.ready in
+    let ready = subst Q c.as_slice-2.ensures.value c.in_ok-ready_changes.ensures.ready in
+    let N : List (ℕ × Option (List Value)) → Type 0 = λ changes. All (λ p. names_row present p.0 ≡ true) changes in
+    let named = subst N c.as_slice.ensures.value c.in_ok-list_rows.ensures.added in
     let more = subst K c.as_mut_slice-notes.ensures.value c.ready_changes.ensures.notes in
     let kept : P notes = record {
       keys = search rules;
@@ -54,5 +63,7 @@ invariant_of-self-2 c =
       posted = posted_put schema notes mid new ids.keys c.args.actor c.args.changes.items c.put_all.ensures ready (posted_more schema c.self.inside.notes.items notes old mid c.ready_changes.ensures.same more c.self.invariant.posted);
       listed = listed_put c.self.inside.changed.items c.args.actor was ids schema notes mid new c.args.changes.items c.requires.actor c.self.invariant.actors c.index_mut-ids.ensures.value c.ready_changes.ensures.ids c.put_all.ensures ready
           (listed_same c.self.inside.changed.items old mid c.ready_changes.ensures.same c.self.invariant.listed);
+      queued = queued_put c.list_rows.new.ends mid new c.args.actor c.args.changes.items c.put_all.ensures (queued_same c.self.inside.ends c.list_rows.new.ends old mid c.list_rows.ensures.ends c.ready_changes.ensures.same c.self.invariant.queued);
+      present = still_put present mid new c.args.actor c.args.changes.items c.put_all.ensures named (still_same c.self.inside.present.keys present old mid c.list_rows.ensures.kept c.ready_changes.ensures.same c.self.invariant.present);
     } in
     subst P (sym (take_at notes _ _ (search rules))) kept

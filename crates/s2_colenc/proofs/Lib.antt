@@ -1,0 +1,13 @@
+pub mod Runs
+pub mod Readings
+pub mod Longest
+pub mod Numbering
+pub mod Lengths
+pub mod Choice
+pub mod Chosen
+pub mod Parts
+pub mod Spelled
+pub mod Unpacked
+pub mod Members
+pub mod WrittenSpelled
+pub mod ReadSpelled

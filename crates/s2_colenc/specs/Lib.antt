@@ -1,0 +1,4 @@
+pub mod Column
+pub mod Written
+pub mod Sizes
+pub mod Spells

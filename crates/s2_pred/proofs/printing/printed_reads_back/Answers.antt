@@ -1,0 +1,5 @@
+use Rattle.s2_pred.proofs.PrintLaws.{grouped, means, no_deeper}
+use Rattle.s2_pred.proofs.printing.printed_reads_back.Goals as goal
+
+pub returns : goal.returns
+returns c = record { grouped = grouped; same = means; no_deeper = λ cols p tree g e. no_deeper cols tree p g e }

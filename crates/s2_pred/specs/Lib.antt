@@ -1,0 +1,11 @@
+pub mod Trees
+pub mod Reading
+pub mod Yards
+pub mod Postfix
+pub mod PostfixLaws
+pub mod TreeCode
+pub mod Measures
+pub mod Meaning
+pub mod Building
+pub mod Printing
+pub mod Ends

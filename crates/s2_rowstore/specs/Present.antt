@@ -1,0 +1,28 @@
+-- Which rows have a living version or an open write, and which can be taken out.
+use Rattle.std.specs.Prelude.{◌≡◌, ℕ, Bool, true, false, ◌||◌, ◌&&◌, nat_le, List, take, Option, None, Some, is_some, is_none}
+use Rattle.s2_rowstore.specs.Chains.{Line, Body, living_since}
+use Rattle.s2_rowstore.specs.Lines.{body_at, names_row}
+use Rattle.s2_rowstore.specs.Visible.{are_rising}
+
+abbrev pub is_present : Body → Bool
+is_present b = is_some (living_since b.0) || is_some b.1
+
+-- each row that has a living version or an open write is among these
+abbrev pub ArePresent : List ℕ → List (ℕ × Line) → Type 0
+ArePresent ids lines = (n : ℕ) → is_present (body_at lines n) ≡ true → names_row ids n ≡ true
+
+-- whether there is a time, which is at most r
+abbrev pub is_by : ℕ → Option ℕ → Bool
+is_by r None = false
+is_by r (Some t) = nat_le t r
+
+-- a living version that began by r, and no open write
+abbrev pub is_free : ℕ → Body → Bool
+is_free r b = is_by r (living_since b.0) && is_none b.1
+
+-- the first of the numbers that pass, at most so many
+pub record AreFirst (most : ℕ) (passes : ℕ → Bool) (ids : List ℕ) : Type 0 where
+  pub every : List ℕ
+  pub rising : are_rising every ≡ true
+  pub exact : (n : ℕ) → names_row every n ≡ passes n
+  pub first : ids ≡ take most every

@@ -1,0 +1,18 @@
+//! Without a word: a worked walk of the row store. With the word `time`: nanoseconds for its calls at growing sizes.
+#![tactic(auto)]
+
+mod bed;
+mod times;
+mod walk;
+
+use anyhow::bail;
+use std::env;
+
+fn main(rt: HostRuntime) -> anyhow::Result<()> {
+    let mut words = env::args(&rt)?.skip(1);
+    match words.next() {
+        None => walk::show(&rt),
+        Some(word) if word.as_str() == "time" => times::show(&rt),
+        Some(_) => bail!("the words are none, or time"),
+    }
+}

@@ -1,0 +1,10 @@
+pub mod Tools
+pub mod Keywords
+pub mod Quotes
+pub mod Numbers
+pub mod Lexed
+pub mod LiteralLaws
+pub mod Printed
+pub mod Written
+pub mod Spelled
+pub mod Longest
