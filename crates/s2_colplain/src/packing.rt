@@ -1,5 +1,5 @@
 //! Packed numbers: a base, a width, and for each number its distance from the base in as many bits.
-ghost use Rattle.std.specs.Prelude.{◌≡◌, ◌+◌, ◌-◌, ◌*◌, ◌/◌, ◌%◌, ◌^◌, ◌<◌, ◌≤◌, ◌||◌, length, take, drop, pos, ◌+ℤ◌, slice_index_or, IfOk, FitsSigned};
+ghost use Rattle.std.specs.Prelude.{◌≡◌, ◌+◌, ◌-◌, ◌*◌, ◌^◌, ◌<◌, ◌≤◌, ◌||◌, length, take, drop, pos, ◌+ℤ◌, slice_index_or, IfOk, FitsSigned};
 ghost use Rattle.std.specs.Int.{w64};
 ghost use Rattle.std.specs.List.{list_any};
 ghost use Rattle.s2_colbytes.specs.Reading.{Gives, to_the_end};
@@ -54,29 +54,7 @@ fn last_word(bytes: &[u8]) -> u128
     }
 }
 
-// The `width` bits from bit `shift` on of the eight bytes from byte `at` on.
-#[inline]
-fn narrow_field(bytes: &[u8], at: usize, shift: u64, width: u32) -> u64
-    requires narrow { width ≤ 57 }
-    requires within_byte { shift < 8 }
-    requires within { at + 8 ≤ length bytes.now }
-    ensures { result ≡ number_of (take 8 (drop at bytes.now)) / 2 ^ shift % 2 ^ width }
-{
-    (u64_from(bytes, at) >> shift) & ((1u64 << width) - 1)
-}
-
-// The `width` bits from bit `shift` on of up to nine bytes from byte `at` on.
-fn wide_field(bytes: &[u8], at: usize, shift: u64, width: u32) -> u64
-    requires narrow { width ≤ 63 }
-    requires within_byte { shift < 8 }
-    requires within { at ≤ length bytes.now }
-    ensures { result ≡ number_of (take 9 (drop at bytes.now)) / 2 ^ shift % 2 ^ width }
-{
-    let word = word_from(bytes, at) >> shift;
-    (word & ((1u128 << width) - 1)) as u64
-}
-
-// The number in the `width` bits from bit `width * i` on: mostly in one word of 64 bits.
+// The number in the `width` bits from bit `width * i` on.
 #[inline]
 fn field(bytes: &[u8], width: u32, i: u32) -> u64
     requires narrow { width ≤ 63 }
@@ -85,12 +63,8 @@ fn field(bytes: &[u8], width: u32, i: u32) -> u64
     ensures small { result < 2 ^ width }
 {
     let bit = u64::from(width) * u64::from(i);
-    let at = (bit / 8) as usize;
-    if width <= 57 && bytes.len() - at >= 8 {
-        narrow_field(bytes, at, bit % 8, width)
-    } else {
-        wide_field(bytes, at, bit % 8, width)
-    }
+    let word = word_from(bytes, (bit / 8) as usize) >> (bit % 8);
+    (word & ((1u128 << width) - 1)) as u64
 }
 
 // Whether the base plus a field is above the greatest number.

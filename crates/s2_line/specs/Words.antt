@@ -147,6 +147,7 @@ read_only_words false = []
 
 -- ---- statements and lines
 
+-- inner says how its predicate is written
 abbrev pub stmt_spelled : {W : Type 0} → (W → List Token) → RawStmtOf W → List Token
 stmt_spelled inner (stmt.Insert table tuples) = token.Key keyword.Insert ∷ token.Key keyword.Into ∷ token.Name table ∷ token.Key keyword.Values ∷ listed tuple_words tuples
 stmt_spelled inner (stmt.Update table sets wheres) = token.Key keyword.Update ∷ token.Name table ∷ token.Key keyword.Set ∷ (listed set_words sets ++ wheres_words inner wheres)

@@ -1,8 +1,5 @@
 //! `UPDATE` and `DELETE`.
-ghost use Rattle.std.specs.Prelude.{◌≡◌, List, Option};
-ghost use Rattle.std.specs.Option.{option_copied};
-ghost use Rattle.s2_token.specs.declared.types.Token.{Token as AnyToken};
-ghost use Rattle.s2_line.specs.Reading.{Gives, told_stmt, comma_at, signed_at, operator_at, sum_at, term_at, set_at, update_at, delete_at};
+ghost use Rattle.s2_line.specs.Reading.{Gives, told_stmt, signed_at, operator_at, sum_at, term_at, set_at, update_at, delete_at};
 
 use crate::fault::Fault;
 use crate::forms::{RawSet, RawStmtOf, RawTerm};

@@ -5,7 +5,6 @@ ghost use Rattle.s2_token.specs.declared.types.Token.{Token as AnyToken};
 ghost use Rattle.s2_line.specs.Reading.{Gives, list_at, comma_at};
 
 use crate::fault::Fault;
-use crate::steps::comma;
 use s2_token::Token;
 use s2_value::Seq;
 use std::alloc::Global;

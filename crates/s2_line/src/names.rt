@@ -1,8 +1,5 @@
 //! Names.
-ghost use Rattle.std.specs.Prelude.{◌≡◌, List, Option};
-ghost use Rattle.std.specs.Option.{option_copied};
-ghost use Rattle.s2_token.specs.declared.types.Token.{Token as AnyToken};
-ghost use Rattle.s2_line.specs.Reading.{comma_at, name_at};
+ghost use Rattle.s2_line.specs.Reading.{name_at};
 
 use crate::fault::Fault;
 use crate::lists::Rule;

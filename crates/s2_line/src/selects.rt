@@ -1,8 +1,6 @@
 //! `SELECT`.
-ghost use Rattle.std.specs.Prelude.{◌≡◌, List, Option, Some};
-ghost use Rattle.std.specs.Option.{option_copied};
-ghost use Rattle.s2_token.specs.declared.types.Token.{Token as AnyToken};
-ghost use Rattle.s2_line.specs.Reading.{Gives, told_stmt, comma_at, columns_at, direction_at, by_at, order_at, limit_at, measure_at, count_at, measured_at, agg_at, is_measured, aggregate_at, plain_at, select_at};
+ghost use Rattle.std.specs.Prelude.{◌≡◌, Some};
+ghost use Rattle.s2_line.specs.Reading.{Gives, told_stmt, columns_at, direction_at, by_at, order_at, limit_at, measure_at, count_at, measured_at, agg_at, is_measured, aggregate_at, plain_at, select_at};
 
 use crate::fault::Fault;
 use crate::forms::{Direction, Measure, RawAgg, RawBy, RawItems, RawStmtOf};

@@ -1,8 +1,7 @@
 //! Options and `CREATE TABLE`.
-ghost use Rattle.std.specs.Prelude.{◌≡◌, List, Option};
+ghost use Rattle.std.specs.Prelude.{◌≡◌};
 ghost use Rattle.std.specs.Option.{option_copied};
-ghost use Rattle.s2_token.specs.declared.types.Token.{Token as AnyToken};
-ghost use Rattle.s2_line.specs.Reading.{Gives, told_raw, comma_at, name_at, option_at, kind_at, column_at, column_next_at, use_at, index_at, indexes_at, create_at};
+ghost use Rattle.s2_line.specs.Reading.{Gives, told_raw, option_at, kind_at, column_at, column_next_at, use_at, index_at, indexes_at, create_at};
 
 use crate::fault::Fault;
 use crate::forms::{KeyUse, RawColumn, RawKey, RawOf};

@@ -1,8 +1,6 @@
 //! Literals, tuples and `INSERT`.
-ghost use Rattle.std.specs.Prelude.{◌≡◌, List, Option};
-ghost use Rattle.s2_token.specs.declared.types.Token.{Token as AnyToken};
 ghost use Rattle.s2_token.specs.Literals.{literal_at};
-ghost use Rattle.s2_line.specs.Reading.{Gives, told_stmt, comma_at, list_at, tuple_at, insert_at};
+ghost use Rattle.s2_line.specs.Reading.{Gives, told_stmt, tuple_at, insert_at};
 
 use crate::fault::Fault;
 use crate::forms::{RawStmtOf, Tuple};

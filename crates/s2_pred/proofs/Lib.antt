@@ -8,3 +8,4 @@ mod MeasureLaws
 pub mod BuildLaws
 mod PrintLaws
 mod EndLaws
+mod ReadLaws

@@ -107,24 +107,24 @@ test_leaf cols (Compare column o x) p e = compared_leaf cols (place_of cols colu
 test_leaf cols (OneOf column xs) p e = one_of_leaf cols (place_of cols column) (values_of xs) p e
 
 -- what two sides mean
-record Sides (make : Plain → Plain → Plain) (m n : Option Plain) (p : Plain) : Type 0 where
-  left : Plain
-  right : Plain
-  left_is : m ≡ Some left
-  right_is : n ≡ Some right
-  is : p ≡ make left right
+pub record Sides (make : Plain → Plain → Plain) (m n : Option Plain) (p : Plain) : Type 0 where
+  pub left : Plain
+  pub right : Plain
+  pub left_is : m ≡ Some left
+  pub right_is : n ≡ Some right
+  pub is : p ≡ make left right
 
-sides : (make : Plain → Plain → Plain) (m n : Option Plain) (p : Plain) → joined make m n ≡ Some p → Sides make m n p
+pub sides : (make : Plain → Plain → Plain) (m n : Option Plain) (p : Plain) → joined make m n ≡ Some p → Sides make m n p
 sides make None n p e = absurd (cc)
 sides make (Some a) None p e = absurd (cc)
 sides make (Some a) (Some b) p e = record { left = a; right = b; left_is = refl; right_is = refl; is = cc }
 
-record Inner (m : Option Plain) (p : Plain) : Type 0 where
-  inside : Plain
-  inside_is : m ≡ Some inside
-  is : p ≡ none_of inside
+pub record Inner (m : Option Plain) (p : Plain) : Type 0 where
+  pub inside : Plain
+  pub inside_is : m ≡ Some inside
+  pub is : p ≡ none_of inside
 
-inner : (m : Option Plain) (p : Plain) → option_map none_of m ≡ Some p → Inner m p
+pub inner : (m : Option Plain) (p : Plain) → option_map none_of m ≡ Some p → Inner m p
 inner None p e = absurd (cc)
 inner (Some a) p e = record { inside = a; inside_is = refl; is = cc }
 

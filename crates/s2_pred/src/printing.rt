@@ -189,9 +189,11 @@ pub fn print_pred(
     }
 }
 
-/// What is printed is a predicate of the grammar, means the same, and nests no deeper than any text of this meaning.
+/// What is printed is a predicate of the grammar, means the same, and nests no deeper than any text of this meaning. What a
+/// predicate of the grammar means can be printed.
 pub fn printed_reads_back()
     ensures grouped { (cols : List Col) (p : Plain) → IsPrintable cols p → IsGrouped (printed cols p) }
     ensures same { (cols : List Col) (p : Plain) → IsPrintable cols p → meaning cols (printed cols p) ≡ Some p }
+    ensures printable { (cols : List Col) (p : Plain) (tree : Tree) → IsGrouped tree → meaning cols tree ≡ Some p → IsPrintable cols p }
     ensures no_deeper { (cols : List Col) (p : Plain) (tree : Tree) → IsGrouped tree → meaning cols tree ≡ Some p → nesting (printed cols p) ≤ nesting tree }
 {}

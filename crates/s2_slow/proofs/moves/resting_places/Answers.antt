@@ -19,7 +19,7 @@ loop-left-preserved-in_ok-add_resting_in c =
     let unset : not (is_some c.segment.inside.died) ≡ true = ap not (c.is_none.ensures ∙ ap not c.if-is_none.true) in
     let lives : is_in_use s ≡ true = ap is_in_use (sym c.segment.view_is) ∙ unset in
     let added : new ≡ ps ++ resting_in ids s =
-        c.in_ok-add_resting_in.ensures
-        ∙ ap (λ (spots : List Spot). ps ++ map (λ p. (c.segment.inside.number, p.0)) (filter (λ p. is_free p.1 && contains_number ids p.1.id) (enumerate_from 0 spots))) c.deref.ensures.value
-        ∙ ap (λ (x : Segment). ps ++ resting_in ids x) c.segment.view_is in
+    c.in_ok-add_resting_in.ensures
+    ∙ ap (λ (spots : List Spot). ps ++ map (λ p. (c.segment.inside.number, p.0)) (filter (λ p. is_free p.1 && contains_number ids p.1.id) (enumerate_from 0 spots))) c.deref.ensures.value
+    ∙ ap (λ (x : Segment). ps ++ resting_in ids x) c.segment.view_is in
     ap (λ ys. new ++ resting_places ys ids) rest ∙ resting_more ids xs s ps new _ some c.segment-item.is lives added c.loop-left.invariant

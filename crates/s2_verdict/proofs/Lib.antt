@@ -1,0 +1,3 @@
+pub mod FirstFound
+pub mod SlowHolders
+pub mod SlowMoves
