@@ -48,33 +48,33 @@ fn per_value(start: Duration, rt: &HostRuntime, rounds: u32) -> io::Result<f64> 
     Ok(nanos / f64::from(rounds) / f64::from(COUNT))
 }
 
-// Each round sums from another place on, so that no round can stand for another.
+// Sums are of 128 bits, as the engine takes them. Each round sums from another place on, so that no round can stand for another.
 #[inline(never)]
-fn sum_plain(numbers: &[i64], from: u32) -> i64 {
-    let mut sum = 0i64;
+fn sum_plain(numbers: &[i64], from: u32) -> i128 {
+    let mut sum = 0i128;
     if from as usize > numbers.len() {
         return sum;
     }
     for number in &numbers[from as usize..] {
-        sum = sum.wrapping_add(*number);
+        sum = sum.wrapping_add(i128::from(*number));
     }
     sum
 }
 
 #[inline(never)]
-fn sum_ints(ints: &PlainInt<'_>, from: u32) -> i64 {
-    let mut sum = 0i64;
+fn sum_ints(ints: &PlainInt<'_>, from: u32) -> i128 {
+    let mut sum = 0i128;
     for i in from..ints.len() {
-        sum = sum.wrapping_add(ints.at(i));
+        sum = sum.wrapping_add(i128::from(ints.at(i)));
     }
     sum
 }
 
 #[inline(never)]
-fn sum_packed(ints: &Packed<'_>, from: u32) -> i64 {
-    let mut sum = 0i64;
+fn sum_packed(ints: &Packed<'_>, from: u32) -> i128 {
+    let mut sum = 0i128;
     for i in from..ints.len() {
-        sum = sum.wrapping_add(ints.at(i));
+        sum = sum.wrapping_add(i128::from(ints.at(i)));
     }
     sum
 }
@@ -90,34 +90,34 @@ fn entry(vals: &Entries<'_>, i: u32) -> i64 {
 }
 
 #[inline(never)]
-fn sum_texts(texts: &PlainText<'_>, from: u32) -> i64 {
-    let mut sum = 0i64;
+fn sum_texts(texts: &PlainText<'_>, from: u32) -> i128 {
+    let mut sum = 0i128;
     for i in from..texts.len() {
-        sum = sum.wrapping_add(texts.at(i).len() as i64);
+        sum = sum.wrapping_add(texts.at(i).len() as i128);
     }
     sum
 }
 
 #[inline(never)]
-fn sum_codes(vals: &Entries<'_>, codes: &Codes<'_>, from: u32) -> i64 {
-    let mut sum = 0i64;
+fn sum_codes(vals: &Entries<'_>, codes: &Codes<'_>, from: u32) -> i128 {
+    let mut sum = 0i128;
     for i in from..codes.len() {
-        sum = sum.wrapping_add(entry(vals, u32::from(codes.at(i))));
+        sum = sum.wrapping_add(i128::from(entry(vals, u32::from(codes.at(i)))));
     }
     sum
 }
 
 #[inline(never)]
-fn sum_runs(lens: &RunLens<'_>, vals: &Entries<'_>, from: u32) -> i64 {
-    let mut sum = 0i64;
+fn sum_runs(lens: &RunLens<'_>, vals: &Entries<'_>, from: u32) -> i128 {
+    let mut sum = 0i128;
     for i in from..lens.count() {
-        sum = sum.wrapping_add(i64::from(lens.at(i)).wrapping_mul(entry(vals, i)));
+        sum = sum.wrapping_add(i128::from(lens.at(i)).wrapping_mul(i128::from(entry(vals, i))));
     }
     sum
 }
 
 // The sum by the parts of the body, as a scan goes.
-fn sum_body(column: &Column<'_>, from: u32) -> i64 {
+fn sum_body(column: &Column<'_>, from: u32) -> i128 {
     match column.body() {
         Body::Ints(ints) => sum_ints(ints, from),
         Body::Packed(ints) => sum_packed(ints, from),
@@ -183,7 +183,7 @@ fn time_read(rt: &HostRuntime, kind: ColType, block: &mut [u8]) -> io::Result<f6
 
 fn time_scan(rt: &HostRuntime, column: &Column<'_>) -> io::Result<f64> {
     let start = rt.thread_cpu_time()?;
-    let mut sum = 0i64;
+    let mut sum = 0i128;
     for round in 0..ROUNDS {
         sum = sum.wrapping_add(sum_body(column, round % 64));
     }
@@ -193,14 +193,14 @@ fn time_scan(rt: &HostRuntime, column: &Column<'_>) -> io::Result<f64> {
 }
 
 #[inline(never)]
-fn sum_values(rt: &HostRuntime, kind: ColType, block: &[u8], from: u32) -> io::Result<i64> {
+fn sum_values(rt: &HostRuntime, kind: ColType, block: &[u8], from: u32) -> io::Result<i128> {
     let Ok(column) = Column::read(kind, COUNT, block) else {
         return Ok(0);
     };
-    let mut sum = 0i64;
+    let mut sum = 0i128;
     for i in from..COUNT {
         let value = column.at(rt.alloc(), i)?;
-        sum = sum.wrapping_add(size_of(&value));
+        sum = sum.wrapping_add(i128::from(size_of(&value)));
     }
     Ok(sum)
 }
@@ -208,7 +208,7 @@ fn sum_values(rt: &HostRuntime, kind: ColType, block: &[u8], from: u32) -> io::R
 // Reading once is in it.
 fn time_at(rt: &HostRuntime, kind: ColType, block: &[u8]) -> io::Result<f64> {
     let start = rt.thread_cpu_time()?;
-    let mut sum = 0i64;
+    let mut sum = 0i128;
     for round in 0..10u32 {
         sum = sum.wrapping_add(sum_values(rt, kind, block, round)?);
     }
@@ -235,7 +235,7 @@ fn measure(rt: &HostRuntime, name: &str, kind: ColType, vals: &[Value]) -> io::R
 
 fn time_plain(rt: &HostRuntime, numbers: &[i64]) -> io::Result<f64> {
     let start = rt.thread_cpu_time()?;
-    let mut sum = 0i64;
+    let mut sum = 0i128;
     for round in 0..ROUNDS {
         sum = sum.wrapping_add(sum_plain(numbers, round % 64));
     }

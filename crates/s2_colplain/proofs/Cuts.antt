@@ -1,13 +1,12 @@
 -- Texts that are cut at their ends.
-use Rattle.std.proofs.Common.{◌≡◌, ℕ, zero, suc, ◌+◌, ◌-◌, ◌*◌, ◌<◌, ◌≤◌, Bool, true, false, ◌&&◌, List, [], ◌∷◌, ◌++◌, length, get_or, take, drop, nat_le, sym, ap, refl, ◌∙◌, subst, arith, rules}
-use Rattle.std.specs.List.{list_all}
+use Rattle.std.proofs.Common.{◌≡◌, ℕ, zero, suc, ◌+◌, ◌-◌, ◌*◌, ◌<◌, ◌≤◌, Bool, true, false, ◌&&◌, List, [], ◌∷◌, length, get_or, take, drop, nat_le, sym, ap, refl, ◌∙◌, arith}
 use Rattle.std.proofs.lemmas.Bool.Decides.{nat_tests}
-use Rattle.std.proofs.lemmas.List.{length-take-le, length-drop}
+use Rattle.std.proofs.lemmas.List.{length-drop}
 use Rattle.byteorder.specs.Endian.{little_number}
-use Rattle.s2_value.specs.Text.{is_text_bytes, is_txt}
+use Rattle.s2_value.specs.Text.{is_text_bytes}
 use Rattle.s2_colbytes.specs.Numbers.{numbers}
-use Rattle.s2_colbytes.proofs.Lists.{drop-drop, get_or-numbers, length-numbers}
-use Rattle.s2_colplain.specs.Texts.{are_ends, last_end, cut_at, are_texts, start_at, texts_in}
+use Rattle.s2_colbytes.proofs.Lists.{drop-drop, get_or-numbers}
+use Rattle.s2_colplain.specs.Texts.{are_ends, last_end, cut_at, are_texts, start_at}
 
 pub and_true : (a b : Bool) → (a && b) ≡ true → (a ≡ true) × (b ≡ true)
 and_true true b h = (refl, h)

@@ -1,10 +1,10 @@
 -- Fields of bits in bytes.
-use Rattle.std.proofs.Common.{◌≡◌, ℕ, zero, suc, ◌+◌, ◌-◌, ◌*◌, ◌/◌, ◌%◌, ◌^◌, ◌<◌, ◌≤◌, ℤ, pos, ◌+ℤ◌, Bool, true, false, ◌||◌, List, [], ◌∷◌, ◌++◌, length, get_or, take, drop, map, sym, ap, refl, ◌∙◌, subst, inl, inr, arith, rules}
+use Rattle.std.proofs.Common.{◌≡◌, ℕ, zero, suc, ◌+◌, ◌-◌, ◌*◌, ◌/◌, ◌%◌, ◌^◌, ◌<◌, ◌≤◌, ℤ, pos, ◌+ℤ◌, Bool, true, false, ◌||◌, List, length, get_or, take, drop, sym, ap, refl, ◌∙◌, inl, inr, arith}
 use Rattle.std.specs.List.{list_any}
-use Rattle.std.proofs.Math.Nat.{mul-add-mod_self_right, mul_assoc, mul_comm}
+use Rattle.std.proofs.Math.Nat.{mul-add-mod_self_right}
 use Rattle.std.proofs.lemmas.Nat.{shr-shr, field_of, pow-add, one_shl, and_mask, mod_below, pow_pos}
 use Rattle.std.proofs.Math.Nat.{pow-le-pow_right}
-use Rattle.std.specs.Prelude.{bit_and, int_lt, FitsSigned}
+use Rattle.std.specs.Prelude.{bit_and, FitsSigned}
 use Rattle.std.specs.Int.{w64}
 use mir.Val.{to_z, of_z}
 use Rattle.std.proofs.lemmas.Int.{ints, to_z-of_z}
@@ -12,7 +12,7 @@ use Rattle.std.proofs.lemmas.List.{take_all}
 use Rattle.std.proofs.lemmas.Bool.{cases_lt}
 use Rattle.byteorder.proofs.Bytes.{pow256}
 use Rattle.s2_colbytes.specs.Numbers.{IsBytes, number_of}
-use Rattle.s2_colbytes.proofs.Bytes.{IsBytes-drop, number_of-drop, number_of-split, number_of-lt}
+use Rattle.s2_colbytes.proofs.Bytes.{number_of-drop, number_of-split, number_of-lt}
 use Rattle.s2_colplain.specs.Packed.{field, unpacked_from, is_over}
 
 -- the low bits of the number that bytes are stand in their first bytes
@@ -30,15 +30,15 @@ number_of-low bs k j l = elim (cases_lt (length bs) k) [
     swapped : (a p q h : ℕ) → a + p * q * h ≡ h * p * q + a
     swapped a p q h = omega arith
 
--- a field stands in the nine bytes from the one that it begins in
-pub field_in : (bs : List ℕ) (at s w i : ℕ) → IsBytes bs → w * i ≡ 8 * at + s → w + s ≤ 72 → field w i (number_of bs) ≡ number_of (take 9 (drop at bs)) / 2 ^ s % 2 ^ w
+-- a field stands in so many bytes from the one that it begins in
+pub field_in : (k : ℕ) (bs : List ℕ) (at s w i : ℕ) → IsBytes bs → w * i ≡ 8 * at + s → w + s ≤ 8 * k → field w i (number_of bs) ≡ number_of (take k (drop at bs)) / 2 ^ s % 2 ^ w
 unfolding field
-field_in bs at s w i h e l =
+field_in k bs at s w i h e l =
     let place : number_of bs / 2 ^ (w * i) ≡ number_of (drop at bs) / 2 ^ s =
     ap (λ (n : ℕ). number_of bs / 2 ^ n) e ∙ sym (shr-shr (number_of bs) (8 * at) s) ∙ ap (λ (n : ℕ). number_of bs / n / 2 ^ s) (sym (pow256 at)) ∙ ap (λ (n : ℕ). n / 2 ^ s) (sym (number_of-drop at bs h)) in
     ap (λ (n : ℕ). n % 2 ^ w) place ∙ sym (field_of (number_of (drop at bs)) w s)
-    ∙ ap (λ (n : ℕ). n / 2 ^ s) (number_of-low (drop at bs) 9 (w + s) l)
-    ∙ field_of (number_of (take 9 (drop at bs))) w s
+    ∙ ap (λ (n : ℕ). n / 2 ^ s) (number_of-low (drop at bs) k (w + s) l)
+    ∙ field_of (number_of (take k (drop at bs))) w s
 
 -- a disjunction that doesn't hold
 pub or_false : (a b : Bool) → (a || b) ≡ false → (a ≡ false) × (b ≡ false)
@@ -62,9 +62,9 @@ few_bytes b bs r h l e f =
     let most : 256 ^ length bs ≤ 256 ^ 7 = pow-le-pow_right {n = 256} (omega arith) l in
     omega arith
 
--- the field under a mask
-pub masked : (x w m : ℕ) → w ≤ 63 → m ≡ 1 * 2 ^ w % 2 ^ 128 - 1 → bit_and x m ≡ x % 2 ^ w
-masked x w m l e = ap (bit_and x) (e ∙ ap (λ (p : ℕ). p - 1) (one_shl w 128 (omega arith))) ∙ and_mask x w
+-- the field under a mask in a word of so many bits
+pub masked : (size x w m : ℕ) → w < size → m ≡ 1 * 2 ^ w % 2 ^ size - 1 → bit_and x m ≡ x % 2 ^ w
+masked size x w m l e = ap (bit_and x) (e ∙ ap (λ (p : ℕ). p - 1) (one_shl w size l)) ∙ and_mask x w
 
 pub field-lt : (w k bits : ℕ) → field w k bits < 2 ^ w
 unfolding field

@@ -1,6 +1,6 @@
 -- Fields that are packed one after the other.
-use Rattle.std.proofs.Common.{◌≡◌, ℕ, zero, suc, ◌+◌, ◌-◌, ◌*◌, ◌/◌, ◌%◌, ◌^◌, ◌<◌, ◌≤◌, ℤ, pos, ◌+ℤ◌, Bool, true, false, List, [], ◌∷◌, ◌++◌, length, get_or, take, drop, map, sym, ap, refl, ◌∙◌, subst, inl, inr, arith, rules}
-use Rattle.std.proofs.Math.Nat.{pow-suc, mul_assoc, mul_comm, div-div-eq-div-mul, div-lt_iff_lt-mul, div-add-mod', add-mul-div_left, mul-suc, mul-le-mul_left, mul-lt-mul_of_pos_left, add_comm}
+use Rattle.std.proofs.Common.{◌≡◌, ℕ, zero, suc, ◌+◌, ◌-◌, ◌*◌, ◌/◌, ◌%◌, ◌^◌, ◌<◌, ◌≤◌, ℤ, pos, List, [], ◌∷◌, ◌++◌, length, get_or, take, sym, ap, refl, ◌∙◌, inl, inr, arith, rules}
+use Rattle.std.proofs.Math.Nat.{pow-suc, mul_assoc, mul_comm, div-div-eq-div-mul, div-lt_iff_lt-mul, div-add-mod', add-mul-div_left, mul-suc, mul-le-mul_left, add_comm}
 use Rattle.std.proofs.lemmas.Nat.{pow-add, pow_pos}
 use Rattle.std.proofs.lemmas.List.{append_assoc, length-append}
 use Rattle.byteorder.proofs.Bytes.{pow256}

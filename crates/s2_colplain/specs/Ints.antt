@@ -1,5 +1,5 @@
 -- Plain numbers: eight bytes each.
-use Rattle.std.specs.Prelude.{◌≡◌, ℕ, ◌+◌, ◌*◌, ℤ, List, [], ◌∷◌, length, map, Result, Ok, Err}
+use Rattle.std.specs.Prelude.{ℕ, ◌*◌, ℤ, List, map, Result, Ok}
 use Rattle.std.specs.List.{flat_map}
 use Rattle.s2_colbytes.specs.declared.ColErr.{ColErr}
 use Rattle.s2_colbytes.specs.Reading.{◌>>=◌, front_at}

@@ -1,6 +1,6 @@
 -- Packed numbers: a base, a width, and for each number its distance from the base in as many bits.
-use Rattle.std.specs.Prelude.{◌≡◌, ℕ, zero, suc, ◌+◌, ◌-◌, ◌*◌, ◌/◌, ◌%◌, ◌^◌, ℤ, pos, ◌+ℤ◌, int_lt, FitsSigned, ◌≤◌, ◌-ℤ◌, unsigned_abs, min, max, Bool, false, List, [], ◌∷◌, ◌++◌, length, map, nat_lt, slice_index, Result, Ok, Err}
-use Rattle.std.specs.List.{range_with_len, list_any}
+use Rattle.std.specs.Prelude.{◌≡◌, ℕ, zero, suc, ◌+◌, ◌-◌, ◌*◌, ◌/◌, ◌%◌, ◌^◌, ℤ, pos, ◌+ℤ◌, int_lt, FitsSigned, ◌≤◌, ◌-ℤ◌, unsigned_abs, min, max, Bool, false, List, [], ◌∷◌, ◌++◌, length, map, nat_lt, slice_index, Result, Ok}
+use Rattle.std.specs.List.{list_any}
 use Rattle.std.specs.Int.{w64, leading_zeros}
 use Rattle.byteorder.specs.Endian.{little_number}
 use Rattle.s2_colbytes.specs.declared.ColErr.{ColErr}

@@ -1,5 +1,5 @@
 -- Plain texts: where each ends, then the bytes of all.
-use Rattle.std.specs.Prelude.{◌≡◌, ℕ, zero, suc, ◌+◌, ◌-◌, ◌*◌, Bool, true, not, ◌&&◌, List, [], ◌∷◌, ◌++◌, length, take, drop, nat_le, Result, Ok, Err}
+use Rattle.std.specs.Prelude.{◌≡◌, ℕ, zero, suc, ◌+◌, ◌-◌, ◌*◌, Bool, true, not, ◌&&◌, List, [], ◌∷◌, ◌++◌, length, take, drop, nat_le, Result, Ok}
 use Rattle.std.specs.List.{list_all, concat}
 use Rattle.byteorder.specs.Endian.{little_number}
 use Rattle.s2_colbytes.specs.declared.ColErr.{ColErr}

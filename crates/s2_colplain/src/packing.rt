@@ -54,9 +54,9 @@ fn last_word(bytes: &[u8]) -> u128
     }
 }
 
-// The number in the `width` bits from bit `width * i` on.
-#[inline]
-fn field(bytes: &[u8], width: u32, i: u32) -> u64
+// A field by the nine bytes that it stands in, of which the last may lack some.
+#[inline(never)]
+fn wide_field(bytes: &[u8], width: u32, i: u32) -> u64
     requires narrow { width ≤ 63 }
     requires within { width * (i + 1) ≤ 8 * length bytes.now }
     ensures value { result ≡ field width i (number_of bytes.now) }
@@ -65,6 +65,24 @@ fn field(bytes: &[u8], width: u32, i: u32) -> u64
     let bit = u64::from(width) * u64::from(i);
     let word = word_from(bytes, (bit / 8) as usize) >> (bit % 8);
     (word & ((1u128 << width) - 1)) as u64
+}
+
+// The number in the `width` bits from bit `width * i` on. Eight bytes hold a field of at most 57 bits, whichever bit it begins at.
+#[inline]
+fn field(bytes: &[u8], width: u32, i: u32) -> u64
+    requires narrow { width ≤ 63 }
+    requires within { width * (i + 1) ≤ 8 * length bytes.now }
+    ensures value { result ≡ field width i (number_of bytes.now) }
+    ensures small { result < 2 ^ width }
+{
+    let bit = u64::from(width) * u64::from(i);
+    let at = (bit / 8) as usize;
+    if width <= 57 {
+        if at + 8 <= bytes.len() {
+            return (u64_from(bytes, at) >> (bit % 8)) & ((1u64 << width) - 1);
+        }
+    }
+    wide_field(bytes, width, i)
 }
 
 // Whether the base plus a field is above the greatest number.

@@ -1,4 +1,4 @@
-use Rattle.std.proofs.Common.{◌≡◌, ℕ, List, ◌-◌, length, take, drop, sym, arith, ◌<◌, ◌≤◌}
+use Rattle.std.proofs.Common.{◌-◌, length, take, drop, arith}
 use Rattle.std.proofs.lemmas.List.{length-drop, length-take-le}
 use Rattle.s2_colbytes.proofs.Bytes.{IsBytes-drop, IsBytes-take}
 use Rattle.s2_colplain.proofs.Fields.{few_bytes}

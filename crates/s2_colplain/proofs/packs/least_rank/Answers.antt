@@ -1,6 +1,6 @@
-use Rattle.std.proofs.Common.{◌≡◌, ℕ, ℤ, List, [], ◌∷◌, ◌≤◌, length, drop, min, arith, ◌∙◌, sym, ap}
+use Rattle.std.proofs.Common.{◌≡◌, ℤ, List, [], ◌∷◌, ◌≤◌, drop, min, arith, ap}
 use Rattle.std.proofs.Math.ListN.{drop_of_length-le}
-use Rattle.s2_colplain.specs.Packed.{least_rank, rank}
+use Rattle.s2_colplain.specs.Packed.{least_rank}
 use Rattle.s2_colplain.proofs.packs.least_rank.Goals as goal
 
 bound : (xs : List ℤ) → least_rank xs ≤ 18446744073709551615

@@ -1,8 +1,8 @@
-use Rattle.std.proofs.Common.{◌≡◌, ◌<◌, ◌≤◌, ◌+◌, ◌-◌, ◌*◌, ◌/◌, ◌^◌, ◌++◌, ◌∷◌, [], ap, sym, ◌∙◌, List, ℕ, ℤ, length, take, get_or, pos, inl, inr, arith}
+use Rattle.std.proofs.Common.{◌≡◌, ◌<◌, ◌≤◌, ◌+◌, ◌-◌, ◌*◌, ◌/◌, ◌^◌, ◌++◌, ◌∷◌, [], ap, sym, ◌∙◌, List, ℕ, ℤ, length, take, inl, inr, arith}
 use Rattle.std.proofs.lemmas.Bool.{cases_lt}
 use Rattle.std.proofs.lemmas.List.{take_all}
 use Rattle.s2_colbytes.specs.Numbers.{bytes_of}
-use Rattle.s2_colplain.specs.Packed.{distances, packed_len, pack, rank, field_bytes}
+use Rattle.s2_colplain.specs.Packed.{distances, packed_len, pack}
 use Rattle.s2_colplain.proofs.Waiting.{Packing, packing_waits, packing_flushes, packing_ends, distances-more, length-distances}
 use Rattle.s2_colplain.proofs.packs.put_fields.Goals as goal
 

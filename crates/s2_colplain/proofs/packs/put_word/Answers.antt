@@ -1,4 +1,4 @@
-use Rattle.std.proofs.Common.{◌≡◌, ◌++◌, ap, ◌∙◌, List, ℕ, arith}
+use Rattle.std.proofs.Common.{◌≡◌, ◌++◌, ap, ◌∙◌, List, ℕ}
 use Rattle.std.specs.Prelude.{bit_and}
 use Rattle.byteorder.specs.Endian.{little_bytes}
 use Rattle.s2_colbytes.specs.Numbers.{bytes_of}

@@ -1,5 +1,5 @@
-use Rattle.std.proofs.Common.{◌≡◌, ◌≤◌, ◌<◌, ◌+◌, ◌-◌, ◌*◌, ◌^◌, ◌++◌, ap, ◌∙◌, sym, List, ℕ, ℤ, take, length, get_or, pos, arith}
-use Rattle.s2_colplain.specs.Packed.{rank, of_rank, least_rank, greatest_rank, spread, digits, field_bytes, packed_ints}
+use Rattle.std.proofs.Common.{◌≡◌, ◌<◌, ◌-◌, ◌^◌, ◌++◌, ap, ◌∙◌, List, ℕ, ℤ, arith}
+use Rattle.s2_colplain.specs.Packed.{of_rank, least_rank, greatest_rank, spread, digits, field_bytes, packed_ints}
 use Rattle.s2_colbytes.specs.Numbers.{int_bytes}
 use Rattle.std.specs.Int.{w64}
 use Rattle.std.proofs.lemmas.Int.{to_z-of_z, ints}

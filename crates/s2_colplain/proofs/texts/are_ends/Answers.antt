@@ -1,4 +1,4 @@
-use Rattle.std.proofs.Common.{◌≡◌, ◌-◌, ◌+◌, ◌*◌, ◌≤◌, length, ap, sym, ◌∙◌, List, ℕ, arith}
+use Rattle.std.proofs.Common.{◌-◌, ◌+◌, ap, sym, ◌∙◌, arith}
 use Rattle.s2_colbytes.specs.Numbers.{numbers}
 use Rattle.s2_colplain.specs.Texts.{are_ends}
 use Rattle.s2_colplain.proofs.Cuts.{left_is, ends_next}

@@ -1,4 +1,4 @@
-use Rattle.std.proofs.Common.{◌≡◌, ◌-◌, ◌+◌, ◌*◌, ◌≤◌, ◌<◌, ◌∷◌, ◌&&◌, Bool, true, false, length, take, drop, ap, sym, ◌∙◌, List, ℕ, arith, refl}
+use Rattle.std.proofs.Common.{◌≡◌, ◌-◌, ◌+◌, ◌*◌, ◌<◌, ◌∷◌, ◌&&◌, true, false, length, take, drop, ap, sym, ◌∙◌, List, ℕ, refl}
 use Rattle.byteorder.specs.Endian.{little_number}
 use Rattle.s2_value.specs.Text.{is_text_bytes}
 use Rattle.s2_colbytes.specs.Numbers.{numbers}

@@ -1,4 +1,4 @@
-use Rattle.std.proofs.Common.{◌≡◌, ◌-◌, ◌+◌, ◌*◌, length, ap, sym, ◌∙◌, List, ℕ}
+use Rattle.std.proofs.Common.{ap, sym, ◌∙◌}
 use Rattle.s2_colplain.specs.Texts.{last_end}
 use Rattle.s2_colplain.proofs.Cuts.{left_is}
 use Rattle.s2_colplain.proofs.texts.last_end.Goals as goal

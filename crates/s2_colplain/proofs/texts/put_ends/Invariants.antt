@@ -1,4 +1,4 @@
-use Rattle.std.proofs.Common.{◌≡◌, ◌+◌, ◌-◌, ◌*◌, ◌≤◌, ◌++◌, length, take, drop, map, vec_len}
+use Rattle.std.proofs.Common.{◌≡◌, ◌+◌, ◌-◌, ◌*◌, ◌≤◌, ◌++◌, length, drop, map, vec_len}
 use Rattle.std.specs.Vec.{vec_capacity}
 use Rattle.s2_colbytes.specs.Numbers.{spelled}
 use Rattle.s2_colplain.specs.Texts.{ends_from}

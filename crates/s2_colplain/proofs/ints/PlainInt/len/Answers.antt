@@ -1,4 +1,4 @@
-use Rattle.std.proofs.Common.{◌≡◌, length, ap, sym, ◌∙◌}
+use Rattle.std.proofs.Common.{length, ap, sym, ◌∙◌}
 use Rattle.std.proofs.lemmas.List.{length-map}
 use Rattle.s2_colbytes.specs.Numbers.{numbers, signed}
 use Rattle.s2_colbytes.proofs.Lists.{length-numbers}

@@ -2,9 +2,9 @@ use Rattle.std.proofs.Common.{◌≡◌, ◌+◌, ◌*◌, ◌<◌, ◌≤◌, �
 use Rattle.std.specs.Int.{w64}
 use Rattle.std.specs.Prelude.{FitsSigned}
 use Rattle.std.proofs.Math.Nat.{mul-le-mul_left, mul_comm}
-use Rattle.std.proofs.lemmas.Int.{to_z-of_z, to_z_pos, ints}
+use Rattle.std.proofs.lemmas.Int.{to_z-of_z, to_z_pos}
 use Rattle.s2_colbytes.specs.Numbers.{number_of}
-use Rattle.s2_colplain.specs.Packed.{unpacked, field, is_over, IsPacked}
+use Rattle.s2_colplain.specs.Packed.{field, is_over}
 use Rattle.s2_colplain.proofs.Fields.{length-unpacked, get_or-unpacked, not_over, base_same, sum_fits}
 use mir.Val.{to_z, of_z}
 use Rattle.std.proofs.Math.Nat.{pow-le-pow_right}

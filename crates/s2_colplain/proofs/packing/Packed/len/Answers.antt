@@ -1,4 +1,4 @@
-use Rattle.std.proofs.Common.{◌≡◌, length, ap, sym, ◌∙◌}
+use Rattle.std.proofs.Common.{length, ap, sym, ◌∙◌}
 use Rattle.s2_colbytes.specs.Numbers.{number_of}
 use Rattle.s2_colplain.proofs.Fields.{length-unpacked}
 use Rattle.s2_colplain.proofs.packing.Packed.len.Goals as goal

@@ -1,10 +1,10 @@
-use Rattle.std.proofs.Common.{◌≡◌, ◌<◌, ◌≤◌, ◌-◌, ◌+◌, ◌*◌, ◌&&◌, ◌∷◌, [], ℕ, List, true, length, get_or, take, drop, nat_le, ap, sym, ◌∙◌, arith, refl}
+use Rattle.std.proofs.Common.{◌≡◌, ◌<◌, ◌≤◌, ◌-◌, ◌+◌, ◌∷◌, [], ℕ, List, true, length, get_or, take, drop, nat_le, ap, sym, ◌∙◌, arith, refl}
 use Rattle.std.proofs.lemmas.Bool.Decides.{nat_tests}
 use Rattle.std.proofs.lemmas.List.{length-take-le, length-drop}
 use Rattle.s2_value.specs.Text.{is_text_bytes, is_txt}
 use Rattle.s2_colbytes.specs.Numbers.{numbers}
 use Rattle.s2_colbytes.proofs.Lists.{get_or-numbers, length-numbers}
-use Rattle.s2_colplain.specs.Texts.{AreTexts, start_at, texts_in, last_end}
+use Rattle.s2_colplain.specs.Texts.{AreTexts, start_at, texts_in}
 use Rattle.s2_colplain.proofs.Cuts.{in_place, get_or-cut_at, length-cut_at, text_of_all, start_at-is}
 use Rattle.s2_colplain.proofs.texts.PlainText.at.Goals as goal
 

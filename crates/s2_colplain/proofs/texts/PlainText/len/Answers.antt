@@ -1,4 +1,4 @@
-use Rattle.std.proofs.Common.{◌≡◌, length, ap, sym, ◌∙◌}
+use Rattle.std.proofs.Common.{length, ap, sym, ◌∙◌}
 use Rattle.s2_colbytes.specs.Numbers.{numbers}
 use Rattle.s2_colbytes.proofs.Lists.{length-numbers}
 use Rattle.s2_colplain.proofs.Cuts.{length-cut_at}
