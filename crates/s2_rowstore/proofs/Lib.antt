@@ -3,9 +3,11 @@ pub mod Ended
 pub mod Found
 pub mod Kept
 pub mod Noted
+pub mod One
 pub mod Prepared
 pub mod Put
 pub mod Queue
 pub mod Rising
 pub mod Stands
 pub mod Steps
+pub mod TakenBack

@@ -1,5 +1,5 @@
 -- Which rows have which keys.
-use Rattle.std.specs.Prelude.{◌≡◌, ◌<◌, ℕ, zero, suc, length, Bool, true, false, ◌||◌, List, [], ◌∷◌, Option, Some, None}
+use Rattle.std.specs.Prelude.{◌≡◌, ◌<◌, ℕ, zero, suc, length, Bool, true, false, ◌||◌, ◌==◌, List, [], ◌∷◌, Option, Some, None}
 use Rattle.std.specs.List.{list_any}
 use Rattle.std.specs.Map.{lookup}
 use Rattle.std.specs.Ordering.{nat_cmp}
@@ -57,3 +57,7 @@ IsNotedRow schema notes id row = (j : ℕ) → j < length (keys_of schema) → n
 -- what was noted is noted still
 abbrev pub KeepsNotes : List (BTreeMap (List Value) (BTreeSet ℕ)) → List (BTreeMap (List Value) (BTreeSet ℕ)) → Type 0
 KeepsNotes old new = (j : ℕ) (q : List Value) (n : ℕ) → noted_at old j q n ≡ true → noted_at new j q n ≡ true
+
+-- what was noted is noted still, but for this row number at this key
+abbrev pub KeepsOthers : List Value → ℕ → List (List Value × BTreeSet ℕ) → List (List Value × BTreeSet ℕ) → Type 0
+KeepsOthers key id old new = (q : List Value) (n : ℕ) → is_noted old q n ≡ true → ((id == n) ≡ true → is_at (row_cmp key) q ≡ false) → is_noted new q n ≡ true

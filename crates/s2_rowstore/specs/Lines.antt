@@ -53,3 +53,8 @@ undone k b = (b.0, slot_after k b.1)
 -- the versions that ended at or before h are forgotten
 abbrev pub cut_body : ℕ → Body → Body
 cut_body h b = (kept h b.0, b.1)
+
+-- what is left of a row where a cut at h is to come, or none
+abbrev pub left_by : Option ℕ → Body → Body
+left_by None b = b
+left_by (Some h) b = cut_body h b

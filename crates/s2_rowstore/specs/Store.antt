@@ -1,5 +1,5 @@
 -- What contracts see of a row store.
-use Rattle.std.specs.Prelude.{◌≡◌, ◌<◌, ℕ, Bool, true, ◌&&◌, nat_lt, length, List, [], Option, None, Some, is_some, slice_index_or}
+use Rattle.std.specs.Prelude.{◌≡◌, ◌<◌, ℕ, Bool, true, ◌&&◌, ◌==◌, nat_lt, length, List, [], Option, None, Some, is_some, slice_index_or}
 use Rattle.std.specs.List.{list_all}
 use Rattle.std.specs.BTreeMap.{BTreeMap}
 use Rattle.std.specs.BTreeSet.{BTreeSet}
@@ -8,7 +8,7 @@ use Rattle.s2_value.specs.declared.schemas.Schema.{Schema}
 use Rattle.s2_value.specs.Schemas.{keys_of, fits}
 use Rattle.s2_rowstore.specs.declared.chain.Version.{Version}
 use Rattle.s2_rowstore.specs.declared.chain.Slot.{Slot}
-use Rattle.s2_rowstore.specs.Chains.{Line, own}
+use Rattle.s2_rowstore.specs.Chains.{Line, Body, own}
 use Rattle.s2_rowstore.specs.Lines.{body_at, names_row}
 use Rattle.s2_rowstore.specs.Keys.{body_has, noted_at, ids_of}
 use Rattle.s2_rowstore.specs.Ends.{Ends, AreQueued}
@@ -70,3 +70,13 @@ changes_fit schema changes = list_all (λ p. change_fits p.1) changes where
 abbrev pub slot_put : ℕ → Option (Option (List Value)) → Option Slot → Option Slot
 slot_put k None slot = slot
 slot_put k (Some change) slot = Some (record { holder = k; change = change })
+
+-- what was noted is noted still, but for keys of this row that its body hasn't
+abbrev pub KeepsBut : Schema → ℕ → Body → List (BTreeMap (List Value) (BTreeSet ℕ)) → List (BTreeMap (List Value) (BTreeSet ℕ)) → Type 0
+KeepsBut schema id b old new = (j : ℕ) (q : List Value) (n : ℕ) → j < length (keys_of schema) → noted_at old j q n ≡ true
+    → ((id == n) ≡ true → body_has (places_of schema j) q b ≡ true) → noted_at new j q n ≡ true
+
+-- what was noted of keys that the rows' bodies have is noted still
+abbrev pub KeepsHad : Schema → (ℕ → Body) → List (BTreeMap (List Value) (BTreeSet ℕ)) → List (BTreeMap (List Value) (BTreeSet ℕ)) → Type 0
+KeepsHad schema B old new = (j : ℕ) (q : List Value) (n : ℕ) → j < length (keys_of schema) → noted_at old j q n ≡ true
+    → body_has (places_of schema j) q (B n) ≡ true → noted_at new j q n ≡ true

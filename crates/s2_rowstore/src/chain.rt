@@ -1,15 +1,17 @@
 // The versions of one row, and its open write.
-ghost use Rattle.std.specs.Prelude.{◌≡◌, ◌<◌, ◌≤◌, ℕ, ◌++◌, ◌-◌, [], None, Some, OnOk, OnErr, is_some, not, vec_len, map};
+ghost use Rattle.std.specs.Prelude.{◌≡◌, ◌<◌, ◌≤◌, ℕ, ◌++◌, ◌-◌, ◌&&◌, [], None, Some, OnOk, OnErr, is_some, not, true, vec_len, length, map};
 ghost use Rattle.std.specs.Option.{option_copied, option_map};
 ghost use Rattle.std.specs.List.{list_any};
 ghost use Rattle.s2_rowstore.specs.Keys.{row_has, slot_has, body_has};
+ghost use Rattle.s2_rowstore.specs.Lines.{cut_body, left_by};
 ghost use Rattle.s2_rowstore.specs.Present.{is_present, is_free};
 ghost use Rattle.s2_rowstore.specs.Chains.{body, row_at, is_visible, is_living, living_since, ended, begun, own, chain_after, slot_after, seen, end_version, kept, is_done, is_empty_body};
 
 use crate::notes::row_has;
-use s2_value::{Memory, Row, Value};
+use s2_value::{Memory, Row, Seq, Value};
 use std::alloc::Global;
 use std::marker::Model;
+use std::mem;
 
 /// A version of a row: the row, when it began, and when it ended.
 #[derive(Debug, Drop)]
@@ -120,6 +122,58 @@ fn is_kept(version: &Version, h: u64) -> bool
     }
 }
 
+fn is_kept_with(version: &Version, h: u64, places: &[u8], key: &[Value]) -> bool
+    ensures { result ≡ (not (is_done h version.now.stop) && row_has places.now key.now version.now.row) }
+{
+    is_kept(version, h) && row_has(places, key, version.row.as_slice())
+}
+
+fn any_kept_with(versions: &[Version], h: u64, places: &[u8], key: &[Value]) -> bool
+    ensures { result ≡ list_any (λ v. not (is_done h v.stop) && row_has places.now key.now v.row) versions.now }
+{
+    let mut left = versions;
+    while let [version, later @ ..] = left {
+        if is_kept_with(version, h, places, key) {
+            return true;
+        }
+        left = later;
+    }
+    false
+}
+
+fn any_kept_has(versions: &[Version], h: u64, places: &[u8], key: &[Value]) -> bool
+    ensures { result ≡ list_any (λ v. row_has places.now key.now v.row) (kept h versions.now) }
+{
+    any_kept_with(versions, h, places, key)
+}
+
+// Hands out the row of a version that ended at or before `h`.
+fn lend_row(alloc: Global, version: &mut Version, h: u64) -> Option<Row>
+    ensures stop { version.new.stop ≡ version.old.stop }
+    ensures kept { not (is_done h version.old.stop) ≡ true → version.new ≡ version.old }
+{
+    if is_kept(version, h) {
+        return None;
+    }
+    Some(mem::replace(&mut version.row, Seq::new(alloc)))
+}
+
+// Hands out the row of the version at place `i`, if it ended at or before `h`.
+fn lend_done(alloc: Global, versions: &mut [Version], i: usize, h: u64) -> Option<Row>
+    requires { i < length versions.old }
+    ensures { kept h versions.new ≡ kept h versions.old }
+{
+    lend_row(alloc, &mut versions[i], h)
+}
+
+// The row that an open write puts.
+fn row_of(slot: Option<Slot>) -> Option<Row> {
+    match slot {
+        Some(slot) => slot.change,
+        None => None,
+    }
+}
+
 impl Chain {
     /// No version and no open write.
     pub(crate) fn new(alloc: Global) -> Chain
@@ -167,13 +221,15 @@ impl Chain {
         }
     }
 
-    /// Sets the open write.
-    pub(crate) fn put(&mut self, slot: Slot)
+    /// Sets the open write, and hands out the row of the one before it.
+    pub(crate) fn put(&mut self, slot: Slot) -> Option<Row>
         requires { 0 < self.old.room }
         ensures same { body self.new ≡ (self.old.versions, Some slot) }
         ensures room { self.new.room ≡ self.old.room }
     {
+        let before = self.slot.take();
         self.slot = Some(slot);
+        row_of(before)
     }
 
     /// The actor's open write, if it has one, takes effect at `time`.
@@ -196,13 +252,15 @@ impl Chain {
         }
     }
 
-    /// The actor's open write, if it has one, is forgotten.
-    pub(crate) fn undo(&mut self, actor: u8)
+    /// The actor's open write, if it has one, is forgotten, and its row handed out.
+    pub(crate) fn undo(&mut self, actor: u8) -> Option<Row>
         ensures { body self.new ≡ (self.old.versions, slot_after actor self.old.slot) }
     {
-        if self.holder() == Some(actor) {
-            self.slot = None;
+        if self.holder() != Some(actor) {
+            return None;
         }
+        let gone = self.slot.take();
+        row_of(gone)
     }
 
     /// The living version ends at `time`.
@@ -225,6 +283,40 @@ impl Chain {
     {
         self.forget(h);
         !self.is_empty()
+    }
+
+    /// How many versions there are.
+    pub(crate) fn len(&self) -> usize
+        ensures { result ≡ length self.now.versions }
+    {
+        self.versions.len()
+    }
+
+    /// Hands out the row of the version at place `i`, if it ended at or before `h`: such a version is to be forgotten.
+    pub(crate) fn lend_done(&mut self, i: usize, h: u64) -> Option<Row>
+        ensures { cut_body h (body self.new) ≡ cut_body h (body self.old) }
+    {
+        if i >= self.versions.len() {
+            return None;
+        }
+        let alloc = *self.versions.allocator();
+        lend_done(alloc, self.versions.as_mut_slice(), i, h)
+    }
+
+    fn kept_has(&self, h: u64, places: &[u8], key: &[Value]) -> bool
+        ensures { result ≡ body_has places.now key.now (cut_body h (body self.now)) }
+    {
+        any_kept_has(self.versions.as_slice(), h, places, key) || self.slot_has(places, key)
+    }
+
+    /// The same where of the versions only those count that a cut at `h` keeps, or all.
+    pub(crate) fn keeps_key(&self, h: Option<u64>, places: &[u8], key: &[Value]) -> bool
+        ensures { result ≡ body_has places.now key.now (left_by h (body self.now)) }
+    {
+        match h {
+            Some(h) => self.kept_has(h, places, key),
+            None => self.has_key(places, key),
+        }
     }
 
     /// Whether some version or the open write has the key at these places.

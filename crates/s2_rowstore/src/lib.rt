@@ -4,11 +4,14 @@
 mod chain;
 mod copies;
 mod ends;
+mod laws;
 mod lines;
 mod notes;
 mod present;
 mod ready;
 mod store;
+mod unnoted;
 
 pub use chain::{Slot, Version};
+pub use laws::rising_lists_are_one;
 pub use store::Rowstore;

@@ -1,8 +1,8 @@
 // The lines of all rows, by row number.
-ghost use Rattle.std.specs.Prelude.{◌≡◌, ◌<◌, ◌≤◌, ℕ, ◌++◌, ◌-◌, [], None, Some, OnOk, OnErr, is_some, not, false, true, vec_len, ◌==◌, if◌then◌else◌};
+ghost use Rattle.std.specs.Prelude.{◌≡◌, ◌<◌, ◌≤◌, ℕ, ◌++◌, ◌-◌, [], None, Some, OnOk, OnErr, is_some, not, false, true, vec_len, length, ◌==◌, if◌then◌else◌};
 ghost use Rattle.std.specs.Option.{option_copied, option_map};
 ghost use Rattle.s2_rowstore.specs.Chains.{body, is_empty_body, own, seen, living_since, ended, begun, kept};
-ghost use Rattle.std.specs.Prelude.{IfOk};
+ghost use Rattle.std.specs.Prelude.{IfOk, IfSome};
 ghost use Rattle.std.specs.List.{filter};
 ghost use Rattle.s2_rowstore.specs.Keys.{body_has};
 ghost use Rattle.std.specs.Ordering.{nat_cmp};
@@ -10,12 +10,17 @@ ghost use Rattle.std.specs.List.Sorted.{IsStrictlySortedBy};
 ghost use Rattle.s2_rowstore.specs.Visible.{visible_in, numbers};
 ghost use Rattle.s2_rowstore.specs.Lines.{line_at, body_at, for_row, names_row, are_apart, have_room, with_begun, with_slot, committed, undone, cut_body};
 ghost use Rattle.s2_rowstore.specs.Ends.{AreQueued};
+ghost use Rattle.s2_rowstore.specs.Store.{KeepsBut, KeepsHad};
+ghost use Rattle.s2_value.specs.Schemas.{keys_of};
 
 use crate::chain::{Chain, Slot};
 use crate::ends::Ends;
-use s2_value::{Duplicate, Memory, Row, Seq, TableRows, Value};
+use crate::notes::Notes;
+use crate::unnoted::{cut_noted, put_noted, undo_noted, unnote_all_done};
+use s2_value::{Duplicate, Memory, Row, Schema, Seq, TableRows, Value};
 use std::alloc::Global;
 use std::collections::{BTreeMap, BTreeSet};
+use std::ops::Bound;
 
 pub(crate) type Lines = BTreeMap<u64, Chain>;
 
@@ -59,14 +64,23 @@ pub(crate) fn begin_line(lines: &mut Lines, id: u64, row: Row, time: u64)
     }
 }
 
-/// Sets the open write of the row.
-pub(crate) fn put_line(lines: &mut Lines, id: u64, slot: Slot)
-    requires { 0 < (line_at lines.old.entries id).room }
+/// Sets the open write of the row, and takes back the notes of the one before it.
+pub(crate) fn put_line(
+    lines: &mut Lines,
+    notes: &mut [Notes],
+    spare: &mut Vec<Value>,
+    schema: &Schema,
+    id: u64,
+    slot: Slot,
+)
+    requires room { 0 < (line_at lines.old.entries id).room }
+    requires count { length notes.old ≡ length (keys_of schema.now) }
     ensures same { (n : ℕ) → body_at lines.new.entries n ≡ (if id == n then ((body_at lines.old.entries n).0, Some slot) else body_at lines.old.entries n) }
     ensures room { (n : ℕ) → (line_at lines.new.entries n).room ≡ (line_at lines.old.entries n).room }
+    ensures notes { KeepsBut schema.now id (body_at lines.new.entries id) notes.old notes.new }
 {
     if let Some(chain) = lines.get_mut(&id) {
-        chain.put(slot);
+        put_noted(chain, notes, spare, schema, id, slot);
     }
 }
 
@@ -79,12 +93,21 @@ pub(crate) fn commit_line(lines: &mut Lines, id: u64, actor: u8, time: u64)
     }
 }
 
-/// The actor's open write of the row is forgotten.
-pub(crate) fn undo_line(lines: &mut Lines, id: u64, actor: u8)
-    ensures { (n : ℕ) → body_at lines.new.entries n ≡ (if id == n then undone actor (body_at lines.old.entries n) else body_at lines.old.entries n) }
+/// The actor's open write of the row is forgotten, with its notes.
+pub(crate) fn undo_line(
+    lines: &mut Lines,
+    notes: &mut [Notes],
+    spare: &mut Vec<Value>,
+    schema: &Schema,
+    id: u64,
+    actor: u8,
+)
+    requires { length notes.old ≡ length (keys_of schema.now) }
+    ensures after { (n : ℕ) → body_at lines.new.entries n ≡ (if id == n then undone actor (body_at lines.old.entries n) else body_at lines.old.entries n) }
+    ensures notes { KeepsBut schema.now id (body_at lines.new.entries id) notes.old notes.new }
 {
     if let Some(chain) = lines.get_mut(&id) {
-        chain.undo(actor);
+        undo_noted(chain, notes, spare, schema, id, actor);
     }
 }
 
@@ -108,18 +131,27 @@ pub(crate) fn begin_all(lines: &mut Lines, rows: Vec<(u64, Row)>, time: u64)
     }
 }
 
-/// Sets the actor's open write of each of the rows.
-pub(crate) fn put_all(lines: &mut Lines, actor: u8, changes: Vec<(u64, Option<Row>)>)
+/// Sets the actor's open write of each of the rows, and takes back the notes of those before them.
+pub(crate) fn put_all(
+    lines: &mut Lines,
+    notes: &mut [Notes],
+    spare: &mut Vec<Value>,
+    schema: &Schema,
+    actor: u8,
+    changes: Vec<(u64, Option<Row>)>,
+)
     requires apart { are_apart changes.items ≡ true }
     requires room { have_room 0 lines.old.entries changes.items ≡ true }
-    ensures { (n : ℕ) → body_at lines.new.entries n ≡ with_slot actor (for_row changes.items n) (body_at lines.old.entries n) }
+    requires count { length notes.old ≡ length (keys_of schema.now) }
+    ensures after { (n : ℕ) → body_at lines.new.entries n ≡ with_slot actor (for_row changes.items n) (body_at lines.old.entries n) }
+    ensures notes { KeepsHad schema.now (λ n. with_slot actor (for_row changes.items n) (body_at lines.old.entries n)) notes.old notes.new }
 {
     for (id, change) in changes {
         let slot = Slot {
             holder: actor,
             change,
         };
-        put_line(lines, id, slot);
+        put_line(lines, notes, spare, schema, id, slot);
     }
 }
 
@@ -131,12 +163,21 @@ pub(crate) fn commit_all(lines: &mut Lines, ids: &BTreeSet<u64>, actor: u8, time
     commit_each(lines, ids, actor, time);
 }
 
-/// The actor's open writes are forgotten: all of them, since these are its rows.
-pub(crate) fn undo_all(lines: &mut Lines, ids: &BTreeSet<u64>, actor: u8)
-    requires { (n : ℕ) → is_some (own actor (body_at lines.old.entries n).1) ≡ true → names_row ids.now.keys n ≡ true }
-    ensures { (n : ℕ) → body_at lines.new.entries n ≡ undone actor (body_at lines.old.entries n) }
+/// The actor's open writes are forgotten, with their notes: all of them, since these are its rows.
+pub(crate) fn undo_all(
+    lines: &mut Lines,
+    notes: &mut [Notes],
+    spare: &mut Vec<Value>,
+    schema: &Schema,
+    ids: &BTreeSet<u64>,
+    actor: u8,
+)
+    requires count { length notes.old ≡ length (keys_of schema.now) }
+    requires listed { (n : ℕ) → is_some (own actor (body_at lines.old.entries n).1) ≡ true → names_row ids.now.keys n ≡ true }
+    ensures after { (n : ℕ) → body_at lines.new.entries n ≡ undone actor (body_at lines.old.entries n) }
+    ensures notes { KeepsHad schema.now (body_at lines.new.entries) notes.old notes.new }
 {
-    undo_each(lines, ids, actor);
+    undo_each(lines, notes, spare, schema, ids, actor);
 }
 
 // The actor's open writes of these rows take effect.
@@ -148,12 +189,21 @@ fn commit_each(lines: &mut Lines, ids: &BTreeSet<u64>, actor: u8, time: u64)
     }
 }
 
-// The actor's open writes of these rows are forgotten.
-fn undo_each(lines: &mut Lines, ids: &BTreeSet<u64>, actor: u8)
-    ensures { (n : ℕ) → body_at lines.new.entries n ≡ (if names_row ids.now.keys n then undone actor (body_at lines.old.entries n) else body_at lines.old.entries n) }
+// The actor's open writes of these rows are forgotten, with their notes.
+fn undo_each(
+    lines: &mut Lines,
+    notes: &mut [Notes],
+    spare: &mut Vec<Value>,
+    schema: &Schema,
+    ids: &BTreeSet<u64>,
+    actor: u8,
+)
+    requires { length notes.old ≡ length (keys_of schema.now) }
+    ensures after { (n : ℕ) → body_at lines.new.entries n ≡ (if names_row ids.now.keys n then undone actor (body_at lines.old.entries n) else body_at lines.old.entries n) }
+    ensures notes { KeepsHad schema.now (body_at lines.new.entries) notes.old notes.new }
 {
     for id in ids {
-        undo_line(lines, *id, actor);
+        undo_line(lines, notes, spare, schema, *id, actor);
     }
 }
 
@@ -206,6 +256,69 @@ pub(crate) fn rows_with_key(
     Ok(found)
 }
 
+// The first row that isn't below `from`.
+fn next_id(lines: &Lines, from: u64) -> Option<u64>
+    ensures { IfSome result (λ id. from ≤ id) }
+{
+    let (id, _) = lines
+        .range((Bound::Included(from), Bound::Unbounded))
+        .next()?;
+    if *id < from {
+        return None;
+    }
+    Some(*id)
+}
+
+// Takes back the notes of the row's versions that ended at or before `h`: they are to be forgotten.
+fn unnote_line(
+    lines: &mut Lines,
+    notes: &mut [Notes],
+    spare: &mut Vec<Value>,
+    schema: &Schema,
+    id: u64,
+    h: u64,
+)
+    requires { length notes.old ≡ length (keys_of schema.now) }
+    ensures same { (n : ℕ) → cut_body h (body_at lines.new.entries n) ≡ cut_body h (body_at lines.old.entries n) }
+    ensures notes { KeepsBut schema.now id (cut_body h (body_at lines.old.entries id)) notes.old notes.new }
+{
+    if let Some(chain) = lines.get_mut(&id) {
+        unnote_all_done(chain, notes, spare, schema, id, h);
+    }
+}
+
+// The same for all rows.
+fn unnote_lines(
+    lines: &mut Lines,
+    notes: &mut [Notes],
+    spare: &mut Vec<Value>,
+    schema: &Schema,
+    h: u64,
+)
+    requires { length notes.old ≡ length (keys_of schema.now) }
+    ensures same { (n : ℕ) → cut_body h (body_at lines.new.entries n) ≡ cut_body h (body_at lines.old.entries n) }
+    ensures notes { KeepsHad schema.now (λ n. cut_body h (body_at lines.old.entries n)) notes.old notes.new }
+{
+    let mut from = 0;
+    while let Some(id) = next_id(lines, from) {
+        unnote_line(lines, notes, spare, schema, id, h);
+        if id == u64::MAX {
+            return;
+        }
+        from = id + 1;
+    }
+}
+
+// Forgets the versions that ended at or before `h`, with their notes, by a walk over all rows.
+fn cut_all(lines: &mut Lines, notes: &mut [Notes], spare: &mut Vec<Value>, schema: &Schema, h: u64)
+    requires { length notes.old ≡ length (keys_of schema.now) }
+    ensures cut { (n : ℕ) → body_at lines.new.entries n ≡ cut_body h (body_at lines.old.entries n) }
+    ensures notes { KeepsHad schema.now (body_at lines.new.entries) notes.old notes.new }
+{
+    unnote_lines(lines, notes, spare, schema, h);
+    cut_lines(lines, h);
+}
+
 // Forgets the versions that ended at or before `h`, and the rows of which nothing is left, by a walk over all rows.
 fn cut_lines(lines: &mut Lines, h: u64)
     ensures { (n : ℕ) → body_at lines.new.entries n ≡ (kept h (body_at lines.old.entries n).0, (body_at lines.old.entries n).1) }
@@ -213,13 +326,22 @@ fn cut_lines(lines: &mut Lines, h: u64)
     lines.retain(|_, chain| chain.cut(h));
 }
 
-// Forgets the versions of the row that ended at or before `h`, and answers whether something is left.
-fn cut_chain(lines: &mut Lines, id: u64, h: u64) -> bool
+// Forgets the versions of the row that ended at or before `h`, with their notes, and answers whether something is left.
+fn cut_chain(
+    lines: &mut Lines,
+    notes: &mut [Notes],
+    spare: &mut Vec<Value>,
+    schema: &Schema,
+    id: u64,
+    h: u64,
+) -> bool
+    requires { length notes.old ≡ length (keys_of schema.now) }
     ensures after { (n : ℕ) → body_at lines.new.entries n ≡ (if id == n then cut_body h (body_at lines.old.entries n) else body_at lines.old.entries n) }
     ensures left { result ≡ not (is_empty_body (body_at lines.new.entries id)) }
+    ensures notes { KeepsBut schema.now id (body_at lines.new.entries id) notes.old notes.new }
 {
     match lines.get_mut(&id) {
-        Some(chain) => chain.cut(h),
+        Some(chain) => cut_noted(chain, notes, spare, schema, id, h),
         None => false,
     }
 }
@@ -232,36 +354,63 @@ fn drop_line(lines: &mut Lines, id: u64)
     let _ = lines.remove(&id);
 }
 
-// Forgets the versions of the row that ended at or before `h`, and the row where nothing is left.
-fn cut_line(lines: &mut Lines, id: u64, h: u64)
-    ensures { (n : ℕ) → body_at lines.new.entries n ≡ (if id == n then cut_body h (body_at lines.old.entries n) else body_at lines.old.entries n) }
+// Forgets the versions of the row that ended at or before `h`, with their notes, and the row where nothing is left.
+fn cut_line(
+    lines: &mut Lines,
+    notes: &mut [Notes],
+    spare: &mut Vec<Value>,
+    schema: &Schema,
+    id: u64,
+    h: u64,
+)
+    requires { length notes.old ≡ length (keys_of schema.now) }
+    ensures after { (n : ℕ) → body_at lines.new.entries n ≡ (if id == n then cut_body h (body_at lines.old.entries n) else body_at lines.old.entries n) }
+    ensures notes { KeepsBut schema.now id (body_at lines.new.entries id) notes.old notes.new }
 {
-    if !cut_chain(lines, id, h) {
+    if !cut_chain(lines, notes, spare, schema, id, h) {
         drop_line(lines, id);
     }
 }
 
-// Forgets the versions that ended at or before `h`, where each is queued.
-fn cut_ended(lines: &mut Lines, ends: &mut Ends, h: u64)
+// Forgets the versions that ended at or before `h`, with their notes, where each is queued.
+fn cut_ended(
+    lines: &mut Lines,
+    ends: &mut Ends,
+    notes: &mut [Notes],
+    spare: &mut Vec<Value>,
+    schema: &Schema,
+    h: u64,
+)
+    requires count { length notes.old ≡ length (keys_of schema.now) }
     requires whole { ends.old.whole ≡ true }
     requires queued { AreQueued ends.old lines.old.entries }
     ensures cut { (n : ℕ) → body_at lines.new.entries n ≡ cut_body h (body_at lines.old.entries n) }
     ensures queued { AreQueued ends.new lines.new.entries }
+    ensures notes { KeepsHad schema.now (body_at lines.new.entries) notes.old notes.new }
 {
     while let Some(id) = ends.pop(h) {
-        cut_line(lines, id, h);
+        cut_line(lines, notes, spare, schema, id, h);
     }
 }
 
-/// Forgets the versions that ended at or before `h`: those of the queue, and where it isn't whole, by a walk over all rows.
-pub(crate) fn cut_rows(lines: &mut Lines, ends: &mut Ends, h: u64)
-    requires { AreQueued ends.old lines.old.entries }
+/// Forgets the versions that ended at or before `h`, with their notes: those of the queue, and where it isn't whole, by a walk over all rows.
+pub(crate) fn cut_rows(
+    lines: &mut Lines,
+    ends: &mut Ends,
+    notes: &mut [Notes],
+    spare: &mut Vec<Value>,
+    schema: &Schema,
+    h: u64,
+)
+    requires count { length notes.old ≡ length (keys_of schema.now) }
+    requires queued { AreQueued ends.old lines.old.entries }
     ensures cut { (n : ℕ) → body_at lines.new.entries n ≡ cut_body h (body_at lines.old.entries n) }
     ensures queued { AreQueued ends.new lines.new.entries }
+    ensures notes { KeepsHad schema.now (body_at lines.new.entries) notes.old notes.new }
 {
     if ends.is_whole() {
-        cut_ended(lines, ends, h);
+        cut_ended(lines, ends, notes, spare, schema, h);
     } else {
-        cut_lines(lines, h);
+        cut_all(lines, notes, spare, schema, h);
     }
 }

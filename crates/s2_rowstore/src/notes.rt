@@ -1,9 +1,9 @@
 // Row numbers noted by the keys of their rows.
-ghost use Rattle.std.specs.Prelude.{◌≡◌, ◌<◌, ℕ, true, OnOk, Some, List, slice_index_or, vec_len, length, pos};
+ghost use Rattle.std.specs.Prelude.{◌≡◌, ◌<◌, ◌==◌, ℕ, true, false, [], OnOk, Some, List, slice_index_or, vec_len, length, pos};
 ghost use Rattle.s2_value.specs.declared.values.Value.{Value as AnyValue};
 ghost use Rattle.s2_value.specs.declared.values.Value.TheVariants.{Int};
 ghost use Rattle.s2_value.specs.Order.{value_eq};
-ghost use Rattle.s2_rowstore.specs.Keys.{has_id, is_noted, row_has, noted_at, IsNotedRow, KeepsNotes};
+ghost use Rattle.s2_rowstore.specs.Keys.{has_id, is_noted, row_has, noted_at, IsNotedRow, KeepsNotes, KeepsOthers};
 ghost use Rattle.s2_value.specs.Schemas.{keys_of, fits};
 
 use s2_value::{Key, Memory, Row, Schema, Value};
@@ -63,6 +63,43 @@ pub(crate) fn note_row(
         note_at(notes, alloc, j, key, id)?;
     }
     Ok(())
+}
+
+// Takes the row number out of the set, and answers whether none is left.
+fn drop_id(ids: &mut BTreeSet<u64>, id: u64) -> bool
+    ensures kept { (n : ℕ) → has_id n (Some ids.old) ≡ true → (id == n) ≡ false → has_id n (Some ids.new) ≡ true }
+    ensures none { result ≡ true → ids.new.keys ≡ [] }
+{
+    let _ = ids.remove(&id);
+    ids.is_empty()
+}
+
+// Takes the row number out of those of the key, and answers whether none is left.
+fn drop_noted(notes: &mut Notes, key: &Key, id: u64) -> bool
+    ensures kept { KeepsOthers key.now id notes.old.entries notes.new.entries }
+    ensures none { result ≡ true → (n : ℕ) → is_noted notes.new.entries key.now n ≡ false }
+{
+    match notes.get_mut(key) {
+        Some(ids) => drop_id(ids, id),
+        None => false,
+    }
+}
+
+// Takes the key out, for which no row number is noted.
+fn drop_key(notes: &mut Notes, key: &Key)
+    requires { (n : ℕ) → is_noted notes.old.entries key.now n ≡ false }
+    ensures { (q : List AnyValue) (n : ℕ) → is_noted notes.old.entries q n ≡ true → is_noted notes.new.entries q n ≡ true }
+{
+    let _ = notes.remove(key);
+}
+
+/// Takes back the note of the row number for the key.
+pub(crate) fn unnote(notes: &mut Notes, key: &Key, id: u64)
+    ensures { KeepsOthers key.now id notes.old.entries notes.new.entries }
+{
+    if drop_noted(notes, key, id) {
+        drop_key(notes, key);
+    }
 }
 
 // Whether the row has the value at a place. A row that ends before it has 0 there.

@@ -18,7 +18,7 @@ use crate::lines::{
 use crate::notes::Notes;
 use crate::present::{changed_rows, drop_absent, drop_all_absent, first_free, list_rows};
 use crate::ready::{ready_changes, ready_rows};
-use s2_value::{Key, Memory, Row, Schema, TableRows};
+use s2_value::{Key, Memory, Row, Schema, TableRows, Value};
 use std::alloc::Global;
 use std::collections::{BTreeMap, BTreeSet};
 use std::marker::Model;
@@ -31,8 +31,10 @@ const ACTORS: usize = 17;
 pub struct Rowstore {
     schema: Schema,
     lines: Lines,
-    // By each key of the schema, the numbers of the rows that have it, or had it once.
+    // By each key of the schema, the numbers of the rows of which some version or open write has it. A write without memory may leave others.
     notes: Vec<Notes>,
+    // Room for a key, so that notes are taken back without memory.
+    spare: Vec<Value>,
     // By each actor, the numbers of the rows that it has an open write of.
     changed: Vec<BTreeSet<u64>>,
     // The numbers of the rows that have a living version or an open write.
@@ -80,12 +82,14 @@ impl Rowstore {
         ensures slots { IfOk result (λ s. (n : ℕ) → slot s n ≡ None) }
     {
         let notes = no_notes(alloc, schema.keys())?;
+        let spare = Vec::with_capacity(alloc, schema.cols.len())?;
         let changed = no_ids(alloc)?;
         let schema = copy_schema(alloc, schema)?;
         Ok(Rowstore {
             schema,
             lines: BTreeMap::new(alloc),
             notes,
+            spare,
             changed,
             present: BTreeSet::new(alloc),
             ends: Ends::new(alloc),
@@ -132,7 +136,15 @@ impl Rowstore {
         ensures slots { (n : ℕ) → slot self.new n ≡ slot_after actor (slot self.old n) }
     {
         let ids = &mut self.changed[actor as usize];
-        undo_all(&mut self.lines, ids, actor);
+        let notes = self.notes.as_mut_slice();
+        undo_all(
+            &mut self.lines,
+            notes,
+            &mut self.spare,
+            &self.schema,
+            ids,
+            actor,
+        );
         drop_all_absent(&mut self.present, &self.lines, ids);
         ids.clear();
     }
@@ -193,7 +205,14 @@ impl Rowstore {
             &self.schema,
             changes.as_slice(),
         )?;
-        put_all(&mut self.lines, actor, changes);
+        put_all(
+            &mut self.lines,
+            notes,
+            &mut self.spare,
+            &self.schema,
+            actor,
+            changes,
+        );
         Ok(())
     }
 
@@ -258,6 +277,14 @@ impl Rowstore {
         ensures chains { (n : ℕ) → chain self.new n ≡ kept h (chain self.old n) }
         ensures slots { (n : ℕ) → slot self.new n ≡ slot self.old n }
     {
-        cut_rows(&mut self.lines, &mut self.ends, h);
+        let notes = self.notes.as_mut_slice();
+        cut_rows(
+            &mut self.lines,
+            &mut self.ends,
+            notes,
+            &mut self.spare,
+            &self.schema,
+            h,
+        );
     }
 }

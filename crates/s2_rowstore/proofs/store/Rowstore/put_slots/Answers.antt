@@ -3,7 +3,7 @@ use Rattle.std.specs.BTreeMap.{BTreeMap}
 use Rattle.std.specs.BTreeSet.{BTreeSet}
 use Rattle.std.proofs.lemmas.List.{take_at}
 use Rattle.s2_value.specs.declared.values.Value.{Value}
-use Rattle.s2_rowstore.specs.Lines.{names_row}
+use Rattle.s2_rowstore.specs.Lines.{names_row, body_at}
 use Rattle.s2_rowstore.specs.Keys.{KeepsNotes}
 use Rattle.s2_rowstore.specs.Prepared.{IsReadyChange}
 use Rattle.s2_rowstore.specs.Store.{IsKept}
@@ -12,6 +12,7 @@ use Rattle.s2_rowstore.proofs.Prepared.{room_from, change_rooms}
 use Rattle.s2_rowstore.proofs.Put.{posted_more, posted_put, listed_put, listed_more, listed_same}
 use Rattle.s2_rowstore.proofs.Ended.{queued_put, queued_same}
 use Rattle.s2_rowstore.proofs.Stands.{still_put, still_same}
+use Rattle.s2_rowstore.proofs.TakenBack.{posted_had, had_as}
 use Rattle.s2_rowstore.proofs.store.Rowstore.put_slots.Goals as goal
 
 pub put_all-requires-clause-room : goal.put_all-requires-clause-room
@@ -47,6 +48,7 @@ invariant_of-self-2 c =
     let mid = c.ready_changes.new.lines.entries in
     let new = c.put_all.new.lines.entries in
     let notes = c.ready_changes.new.notes in
+    let after = c.put_all.new.notes in
     let ids = c.ready_changes.new.ids in
     let present = c.list_rows.new.ids.keys in
     let was = c.index_mut-ids.result.now in
@@ -57,13 +59,13 @@ invariant_of-self-2 c =
     let N : List (ℕ × Option (List Value)) → Type 0 = λ changes. All (λ p. names_row present p.0 ≡ true) changes in
     let named = subst N c.as_slice.ensures.value c.in_ok-list_rows.ensures.added in
     let more = subst K c.as_mut_slice-notes.ensures.value c.ready_changes.ensures.notes in
-    let kept : P notes = record {
+    let kept : P after = record {
       keys = search rules;
       actors = actors_stay c.self.inside.changed.items c.args.actor ids c.self.invariant.actors;
-      posted = posted_put schema notes mid new ids.keys c.args.actor c.args.changes.items c.put_all.ensures ready (posted_more schema c.self.inside.notes.items notes old mid c.ready_changes.ensures.same more c.self.invariant.posted);
-      listed = listed_put c.self.inside.changed.items c.args.actor was ids schema notes mid new c.args.changes.items c.requires.actor c.self.invariant.actors c.index_mut-ids.ensures.value c.ready_changes.ensures.ids c.put_all.ensures ready
+      posted = posted_had schema notes after new (had_as schema _ (body_at new) notes after c.put_all.ensures.after c.put_all.ensures.notes) (posted_put schema notes mid new ids.keys c.args.actor c.args.changes.items c.put_all.ensures.after ready (posted_more schema c.self.inside.notes.items notes old mid c.ready_changes.ensures.same more c.self.invariant.posted));
+      listed = listed_put c.self.inside.changed.items c.args.actor was ids schema notes mid new c.args.changes.items c.requires.actor c.self.invariant.actors c.index_mut-ids.ensures.value c.ready_changes.ensures.ids c.put_all.ensures.after ready
           (listed_same c.self.inside.changed.items old mid c.ready_changes.ensures.same c.self.invariant.listed);
-      queued = queued_put c.list_rows.new.ends mid new c.args.actor c.args.changes.items c.put_all.ensures (queued_same c.self.inside.ends c.list_rows.new.ends old mid c.list_rows.ensures.ends c.ready_changes.ensures.same c.self.invariant.queued);
-      present = still_put present mid new c.args.actor c.args.changes.items c.put_all.ensures named (still_same c.self.inside.present.keys present old mid c.list_rows.ensures.kept c.ready_changes.ensures.same c.self.invariant.present);
+      queued = queued_put c.list_rows.new.ends mid new c.args.actor c.args.changes.items c.put_all.ensures.after (queued_same c.self.inside.ends c.list_rows.new.ends old mid c.list_rows.ensures.ends c.ready_changes.ensures.same c.self.invariant.queued);
+      present = still_put present mid new c.args.actor c.args.changes.items c.put_all.ensures.after named (still_same c.self.inside.present.keys present old mid c.list_rows.ensures.kept c.ready_changes.ensures.same c.self.invariant.present);
     } in
-    subst P (sym (take_at notes _ _ (search rules))) kept
+    subst P (sym (take_at after _ _ (search rules))) kept
