@@ -1,0 +1,3 @@
+pub mod ToldLaws
+pub mod LineCuts
+pub mod RunLaws

@@ -1,0 +1,13 @@
+//! Scripts: their bytes as lines, each judged after the lines before it.
+#![tactic(auto)]
+
+mod bytes;
+mod judging;
+mod reading;
+mod stops;
+mod verdicts;
+
+pub use judging::judge;
+pub use reading::{Lines, read_lines};
+pub use stops::Stop;
+pub use verdicts::Verdict;
