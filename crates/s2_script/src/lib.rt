@@ -5,6 +5,8 @@ mod bytes;
 mod judging;
 mod reading;
 mod stops;
+#[cfg(test)]
+mod tests;
 mod verdicts;
 
 pub use judging::judge;
