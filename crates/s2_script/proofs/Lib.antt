@@ -1,3 +1,4 @@
 pub mod ToldLaws
 pub mod LineCuts
 pub mod RunLaws
+pub mod OneLaws

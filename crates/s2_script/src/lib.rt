@@ -3,6 +3,7 @@
 
 mod bytes;
 mod judging;
+mod laws;
 mod reading;
 mod stops;
 #[cfg(test)]
@@ -10,6 +11,7 @@ mod tests;
 mod verdicts;
 
 pub use judging::judge;
+pub use laws::one_outcome;
 pub use reading::{Lines, read_lines};
 pub use stops::Stop;
 pub use verdicts::Verdict;
