@@ -1,5 +1,5 @@
 -- Worked histories: each entry fits the history before it, and the placement after them is as it should be.
-use Rattle.std.proofs.Common.{Box, Global, Option, ◌≡◌, ℕ, true, false, List, [], ◌∷◌, Some, None, codes, pos, refl, inl, arith}
+use Rattle.std.proofs.Common.{Option, ◌≡◌, ℕ, true, false, List, [], ◌∷◌, Some, None, codes, pos, refl, inl, arith}
 use Rattle.s2_value.specs.declared.values.Value.TheVariants.{Int, Text}
 use Rattle.s2_value.specs.declared.values.ColType.TheVariants as kind
 use Rattle.s2_value.specs.declared.schemas.Col.{Col}
@@ -20,8 +20,7 @@ use Rattle.s2_model.specs.declared.outcomes.SegNote.{SegNote}
 use Rattle.s2_model.specs.Laws.{by_number}
 use Rattle.s2_model.specs.Notes.{placement_note}
 use Rattle.s2_model.specs.declared.predicates.Op.TheVariants.{Eq, Gt, Le, Lt}
-use Rattle.s2_model.specs.declared.predicates.Pred.{Pred}
-use Rattle.s2_model.specs.declared.predicates.Pred.TheVariants.{All, Cmp, Not'}
+use Rattle.s2_model.specs.Predicates.{Predicate, every_row, compared, none_of}
 use Rattle.s2_model.specs.declared.replies.Refusal.TheVariants.{Locked, Overtaken, ReadFault}
 use Rattle.s2_model.specs.declared.replies.Reply.TheVariants.{Changed, Rows, Late, Merged, Nothing, Refused}
 use Rattle.s2_model.specs.declared.statements.Items.TheVariants.{Star, Columns, Aggs}
@@ -296,7 +295,7 @@ move_once_placed = refl
 -- the update of a row in a segment moves it first, another session's is refused, and after the ROLLBACK nothing is moved again
 
 abbrev set_v : ℕ → Stmt
-set_v n = Update ((1, Given (Int (pos n))) ∷ []) All
+set_v n = Update ((1, Given (Int (pos n))) ∷ []) every_row
 
 move_once_moves : verdict int_columns (upto 4 move_once) 1 (set_v 11) ≡ makes (Changed 1) (Move ((1, 0) ∷ []) ∷ Write (Put 1 (numbers 1 11) ∷ []) ∷ [])
 unfolding sessions
@@ -306,7 +305,7 @@ move_once_locked : verdict int_columns (upto 6 move_once) 2 (set_v 12) ≡ refus
 unfolding sessions
 move_once_locked = refl
 
-move_once_again : verdict int_columns (upto 7 move_once) 2 (Update ((1, Plus 1 (pos 2)) ∷ []) All)
+move_once_again : verdict int_columns (upto 7 move_once) 2 (Update ((1, Plus 1 (pos 2)) ∷ []) every_row)
     ≡ makes (Changed 1) (Write (Put 1 (numbers 1 12) ∷ []) ∷ Commit ∷ [])
 unfolding sessions
 move_once_again = refl
@@ -406,16 +405,16 @@ orders_fits = (
 orders_placed : by_number (placed_rows 6 orders) ≡ state orders
 orders_placed = refl
 
-orders_update : verdict orders_table (upto 3 orders) 2 (Update ((2, Given (Text (codes "paid"))) ∷ []) (Cmp 0 Eq (Int (pos 1002))))
+orders_update : verdict orders_table (upto 3 orders) 2 (Update ((2, Given (Text (codes "paid"))) ∷ []) (compared 0 Eq (Int (pos 1002))))
     ≡ makes (Changed 1) (Move ((1, 0) ∷ []) ∷ Write (Put 2 (order_row 1002 (codes "ink") (codes "paid") 990) ∷ []) ∷ Commit ∷ [])
 unfolding sessions
 orders_update = refl
 
-orders_sums : verdict orders_table orders 2 (SelectStmt (record { items = Aggs (Count ∷ Sum 3 ∷ []); pred = All; order = []; limit = None }))
+orders_sums : verdict orders_table orders 2 (SelectStmt (record { items = Aggs (Count ∷ Sum 3 ∷ []); pred = every_row; order = []; limit = None }))
     ≡ says (Rows ((cell.Int (pos 2) ∷ cell.Int (pos 1240) ∷ []) ∷ []))
 orders_sums = refl
 
-orders_by_key : verdict orders_table orders 2 (SelectStmt (record { items = Columns (1 ∷ []); pred = Cmp 0 Eq (Int (pos 1001)); order = []; limit = None }))
+orders_by_key : verdict orders_table orders 2 (SelectStmt (record { items = Columns (1 ∷ []); pred = compared 0 Eq (Int (pos 1001)); order = []; limit = None }))
     ≡ says (Rows ((cell.Text (codes "pen") ∷ []) ∷ []))
 orders_by_key = refl
 
@@ -448,19 +447,19 @@ evicted_fits = (
   record { by = refl; some = refl; all = refl },
 )
 
-abbrev select_where : Pred → Stmt
+abbrev select_where : Predicate → Stmt
 select_where pred = SelectStmt (record { items = Star; pred = pred; order = []; limit = None })
 
-evicted_needs : needed one_column default_options evicted 1 0 (select_where All) ≡ 1 ∷ []
+evicted_needs : needed one_column default_options evicted 1 0 (select_where every_row) ≡ 1 ∷ []
 evicted_needs = refl
 
 evicted_lacks : counts_as_evicted evicted 5 1 1 ≡ true
 evicted_lacks = refl
 
-evicted_faults : FaultsBy one_column default_options evicted 5 1 0 (select_where All) (Refused (ReadFault 1))
+evicted_faults : FaultsBy one_column default_options evicted 5 1 0 (select_where every_row) (Refused (ReadFault 1))
 evicted_faults = record { may = refl; names = refl }
 
-evicted_needs_none : needed one_column default_options evicted 1 0 (select_where (Cmp 0 Gt (Int (pos 9)))) ≡ []
+evicted_needs_none : needed one_column default_options evicted 1 0 (select_where (compared 0 Gt (Int (pos 9)))) ≡ []
 evicted_needs_none = refl
 
 -- inside a read-only transaction an EVICT before its end counts, and one after it doesn't
@@ -473,7 +472,7 @@ pinned =
     ▷ 1 does Upload 1
     ▷ 2 does Pin
 
-pinned_needs : needed one_column default_options pinned 2 0 (select_where All) ≡ 1 ∷ []
+pinned_needs : needed one_column default_options pinned 2 0 (select_where every_row) ≡ 1 ∷ []
 pinned_needs = refl
 
 pinned_lacks : counts_as_evicted (pinned ▷ 1 does Evict (1 ∷ []) ▷ 2 does Unpin) 5 2 1 ≡ true
@@ -484,19 +483,19 @@ pinned_has = refl
 
 -- keys: a value within the ends of the column, but of a hash that no row has, needs no segment
 
-orders_by_id : needed orders_table default_options (upto 3 orders) 2 0 (select_where (Cmp 0 Eq (Int (pos 1001)))) ≡ 1 ∷ []
+orders_by_id : needed orders_table default_options (upto 3 orders) 2 0 (select_where (compared 0 Eq (Int (pos 1001)))) ≡ 1 ∷ []
 unfolding holds_hash
 orders_by_id = refl
 
-orders_by_sku : needed orders_table default_options (upto 3 orders) 2 0 (select_where (Cmp 1 Eq (Text (codes "jam")))) ≡ []
+orders_by_sku : needed orders_table default_options (upto 3 orders) 2 0 (select_where (compared 1 Eq (Text (codes "jam")))) ≡ []
 unfolding holds_hash
 orders_by_sku = refl
 
-orders_by_range : needed orders_table default_options (upto 3 orders) 2 0 (select_where (Cmp 1 Lt (Text (codes "jam")))) ≡ 1 ∷ []
+orders_by_range : needed orders_table default_options (upto 3 orders) 2 0 (select_where (compared 1 Lt (Text (codes "jam")))) ≡ 1 ∷ []
 orders_by_range = refl
 
-orders_not_in : (box : Box (Unit {0}) Global) → needed orders_table default_options (upto 3 orders) 2 0 (select_where (Not' box (Cmp 0 Le (Int (pos 1002))))) ≡ []
-orders_not_in box = refl
+orders_not_in : needed orders_table default_options (upto 3 orders) 2 0 (select_where (none_of (compared 0 Le (Int (pos 1002))))) ≡ []
+orders_not_in = refl
 
 orders_insert_same : needed orders_table default_options (upto 3 orders) 2 0 (Insert (order_row 1002 (codes "cap") (codes "new") 1 ∷ [])) ≡ 1 ∷ []
 unfolding holds_hash

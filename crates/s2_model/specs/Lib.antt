@@ -15,6 +15,7 @@ pub mod Notes
 pub mod OutputText
 pub mod Placement
 pub mod Plan
+pub mod Predicates
 pub mod RepliesLaws
 pub mod Rows
 pub mod Table

@@ -9,8 +9,6 @@ use Rattle.s2_value.specs.Bytes.{key_hash}
 use Rattle.s2_value.specs.Order.{value_cmp, row_eq}
 use Rattle.s2_value.specs.Rows.{key_of}
 use Rattle.s2_value.specs.Schemas.{keys_of, key as key_at}
-use Rattle.s2_model.specs.declared.predicates.Pred.{Pred}
-use Rattle.s2_model.specs.declared.predicates.Pred.TheVariants.{All, Cmp, OneOf, And', Or', Not'}
 use Rattle.s2_model.specs.declared.predicates.Op.{Op}
 use Rattle.s2_model.specs.declared.predicates.Op.TheVariants.{Eq, Ne, Lt, Le, Gt, Ge}
 use Rattle.s2_model.specs.declared.statements.Stmt.{Stmt}
@@ -21,6 +19,7 @@ use Rattle.s2_model.specs.declared.replies.Reply.TheVariants.{Refused}
 use Rattle.s2_model.specs.declared.entries.What.{What}
 use Rattle.s2_model.specs.declared.entries.What.TheVariants as entry
 use Rattle.s2_model.specs.declared.scripts.Options.{Options}
+use Rattle.s2_model.specs.Predicates.{Predicate, every_row, compared, one_of, all_of, any_of, none_of}
 use Rattle.s2_model.specs.Table.{Table, RowOf}
 use Rattle.s2_model.specs.Rows.{value_at, matches, after}
 use Rattle.s2_model.specs.History.{History, ◌▷◌, upto, pin_of, view}
@@ -75,27 +74,27 @@ opposite Gt = Le
 opposite Ge = Lt
 
 -- these least and greatest values allow a row at which the predicate has this truth value: NOT is pushed to the comparisons first
-abbrev pub admits_as : Bool → Pred → RowOf → RowOf → Bool
-admits_as b All least greatest = b
-admits_as b (Cmp c op v) least greatest = op_admits (if b then op else opposite op) (value_at least c) (value_at greatest c) v
-admits_as true (OneOf c vs) least greatest = list_any (λ v. op_admits Eq (value_at least c) (value_at greatest c) v) vs
-admits_as false (OneOf c vs) least greatest = list_all (λ v. op_admits Ne (value_at least c) (value_at greatest c) v) vs
-admits_as true (And' p left q right) least greatest = admits_as true left least greatest && admits_as true right least greatest
-admits_as false (And' p left q right) least greatest = admits_as false left least greatest || admits_as false right least greatest
-admits_as true (Or' p left q right) least greatest = admits_as true left least greatest || admits_as true right least greatest
-admits_as false (Or' p left q right) least greatest = admits_as false left least greatest && admits_as false right least greatest
-admits_as b (Not' p inner) least greatest = admits_as (not b) inner least greatest
+abbrev pub admits_as : Bool → Predicate → RowOf → RowOf → Bool
+admits_as b every_row least greatest = b
+admits_as b (compared c op v) least greatest = op_admits (if b then op else opposite op) (value_at least c) (value_at greatest c) v
+admits_as true (one_of c vs) least greatest = list_any (λ v. op_admits Eq (value_at least c) (value_at greatest c) v) vs
+admits_as false (one_of c vs) least greatest = list_all (λ v. op_admits Ne (value_at least c) (value_at greatest c) v) vs
+admits_as true (all_of left right) least greatest = admits_as true left least greatest && admits_as true right least greatest
+admits_as false (all_of left right) least greatest = admits_as false left least greatest || admits_as false right least greatest
+admits_as true (any_of left right) least greatest = admits_as true left least greatest || admits_as true right least greatest
+admits_as false (any_of left right) least greatest = admits_as false left least greatest && admits_as false right least greatest
+admits_as b (none_of inner) least greatest = admits_as (not b) inner least greatest
 
 -- the least and greatest values allow a match
-abbrev pub admits : Pred → RowOf → RowOf → Bool
+abbrev pub admits : Predicate → RowOf → RowOf → Bool
 admits pred least greatest = admits_as true pred least greatest
 
 -- a key that a predicate fixes
 
 -- the columns that the top-level conjunction sets equal to a value, from left to right
-abbrev pub equalities : Pred → List (ℕ × Value)
-equalities (Cmp c Eq v) = (c, v) ∷ []
-equalities (And' p left q right) = equalities left ++ equalities right
+abbrev pub equalities : Predicate → List (ℕ × Value)
+equalities (compared c Eq v) = (c, v) ∷ []
+equalities (all_of left right) = equalities left ++ equalities right
 equalities _ = []
 
 -- the value of the leftmost of them for a column
@@ -107,7 +106,7 @@ abbrev pub fixes : List (ℕ × Value) → List ℕ → Bool
 fixes fixed places = list_all (λ c. is_some (fixed_at fixed c)) places
 
 -- the first key that a predicate fixes, unique keys before indexes, with its value
-abbrev pub fixed_key : Schema → Pred → Option (ℕ × List Value)
+abbrev pub fixed_key : Schema → Predicate → Option (ℕ × List Value)
 fixed_key schema pred =
     option_map (λ key. (key.0, map (λ c. unwrap_or (fixed_at (equalities pred) c) (Int (pos 0))) key.1))
     (find (λ key. fixes (equalities pred) key.1) (enumerate_from 0 (keys_of schema)))
@@ -126,11 +125,11 @@ holds_fixed schema H s (Some fixed) = holds_hash schema H s fixed.0 fixed.1
 abbrev pub read_time : History → ℕ → ℕ
 read_time H k = unwrap_or (pin_of H k) (length H)
 
-abbrev pub is_admitted : Schema → History → Pred → Segment → Bool
+abbrev pub is_admitted : Schema → History → Predicate → Segment → Bool
 is_admitted schema H pred s =
     admits pred (least_values schema (rows_of H s)) (greatest_values schema (rows_of H s))
 
-abbrev pub needs_for_predicate : Schema → History → ℕ → Pred → Segment → Bool
+abbrev pub needs_for_predicate : Schema → History → ℕ → Predicate → Segment → Bool
 needs_for_predicate schema H k pred s =
     is_alive (read_time H k) s && list_any (is_unmarked (read_time H k)) s.spots && is_admitted schema H pred s
     && (is_some (pin_of H k) || holds_fixed schema H s (fixed_key schema pred))

@@ -6,12 +6,11 @@ use Rattle.std.specs.Ordering.{is_eq, is_lt, is_gt, int_cmp}
 use Rattle.s2_value.specs.declared.values.Value.{Value}
 use Rattle.s2_value.specs.declared.values.Value.TheVariants.{Int, Text}
 use Rattle.s2_value.specs.Order.{value_cmp}
-use Rattle.s2_model.specs.declared.predicates.Pred.{Pred}
-use Rattle.s2_model.specs.declared.predicates.Pred.TheVariants.{All, Cmp, OneOf, And', Or', Not'}
 use Rattle.s2_model.specs.declared.predicates.Op.{Op}
 use Rattle.s2_model.specs.declared.predicates.Op.TheVariants.{Eq, Ne, Lt, Le, Gt, Ge}
 use Rattle.s2_model.specs.declared.statements.SetExpr.{SetExpr}
 use Rattle.s2_model.specs.declared.statements.SetExpr.TheVariants.{Given, Column, Plus, Minus}
+use Rattle.s2_model.specs.Predicates.{Predicate, every_row, compared, one_of, all_of, any_of, none_of}
 use Rattle.s2_model.specs.Table.{RowOf}
 
 -- the value of a column
@@ -28,13 +27,13 @@ accepts Gt o = is_gt o
 accepts Ge o = not (is_lt o)
 
 -- the predicate's truth
-abbrev pub matches : Pred → RowOf → Bool
-matches All row = true
-matches (Cmp c op v) row = accepts op (value_cmp (value_at row c) v)
-matches (OneOf c vs) row = list_any (λ v. is_eq (value_cmp (value_at row c) v)) vs
-matches (And' p left q right) row = matches left row && matches right row
-matches (Or' p left q right) row = matches left row || matches right row
-matches (Not' p inner) row = not (matches inner row)
+abbrev pub matches : Predicate → RowOf → Bool
+matches every_row row = true
+matches (compared c op v) row = accepts op (value_cmp (value_at row c) v)
+matches (one_of c vs) row = list_any (λ v. is_eq (value_cmp (value_at row c) v)) vs
+matches (all_of left right) row = matches left row && matches right row
+matches (any_of left right) row = matches left row || matches right row
+matches (none_of inner) row = not (matches inner row)
 
 -- a number of 64 bits, or nothing
 abbrev pub in_range : ℤ → Option Value

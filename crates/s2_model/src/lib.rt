@@ -1,6 +1,7 @@
 //! The model of the engine: entries, statements, replies and scripts, and the definitions that say what they mean.
 #![tactic(auto)]
 
+mod conditions;
 mod entries;
 mod files;
 mod laws;
@@ -13,6 +14,7 @@ mod runs;
 mod scripts;
 mod statements;
 
+pub use conditions::Condition;
 pub use entries::{
     Change, ChangeList, Entry, EntryList, FlushNote, MergeNote, NewSegList, PlaceList, What,
 };

@@ -3,9 +3,10 @@ ghost use Rattle.std.specs.Prelude.{◌≡◌, ◌+ℤ◌, ◌-ℤ◌, IfOk, sli
 ghost use Rattle.std.specs.List.{list_any};
 ghost use Rattle.std.specs.Ordering.{is_eq};
 ghost use Rattle.s2_value.specs.Order.{value_cmp};
+ghost use Rattle.s2_model.specs.Predicates.{predicate_of};
 ghost use Rattle.s2_model.specs.Rows.{value_at, accepts, matches, in_range, number_in, set_value, set_columns, after};
 
-use crate::{Op, Pred, SetExpr, SetList};
+use crate::{Condition, Op, Pred, SetExpr, SetList};
 use s2_value::{Duplicate, Memory, Row, Seq, Value};
 use std::alloc::Global;
 use std::cmp::Ordering;
@@ -47,20 +48,26 @@ fn is_one_of(row: &[Value], column: u8, values: &[Value]) -> bool
     false
 }
 
-/// Whether the predicate is true of the row. Values are compared in their order: numbers by size, texts by bytes, a number before a text.
-/// A column that the row doesn't have reads as the number 0, so it answers for every row.
-/// It takes no memory. It calls itself once for each nesting of AND, OR and NOT: a script has at most 64 comparisons in a predicate, and nests at most 16 deep.
-pub fn matches(pred: &Pred, row: &Row) -> bool
-    ensures { result ≡ matches pred.now row.now }
+fn holds(pred: &Pred, row: &Row) -> bool
+    ensures { result ≡ matches (predicate_of pred.now) row.now }
 {
     match pred {
         Pred::All => true,
         Pred::Cmp(column, op, value) => accepts(*op, compare_at(row.as_slice(), *column, value)),
         Pred::OneOf(column, values) => is_one_of(row.as_slice(), *column, values.as_slice()),
-        Pred::And(left, right) => matches(left, row) && matches(right, row),
-        Pred::Or(left, right) => matches(left, row) || matches(right, row),
-        Pred::Not(inner) => !matches(inner, row),
+        Pred::And(left, right) => holds(left, row) && holds(right, row),
+        Pred::Or(left, right) => holds(left, row) || holds(right, row),
+        Pred::Not(inner) => !holds(inner, row),
     }
+}
+
+/// Whether the predicate is true of the row. Values are compared in their order: numbers by size, texts by bytes, a number before a text.
+/// A column that the row doesn't have reads as the number 0, so it answers for every row.
+/// It takes no memory. It goes one call deeper for each nesting of AND, OR and NOT: a script has at most 64 comparisons in a predicate, and nests at most 16 deep.
+pub fn matches(pred: &Condition, row: &Row) -> bool
+    ensures { result ≡ matches pred.now row.now }
+{
+    holds(pred.pred(), row)
 }
 
 /// A copy of the value of a column. A column that the row doesn't have reads as the number 0. The `Err` is want of memory.

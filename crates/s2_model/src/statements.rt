@@ -1,5 +1,5 @@
 //! Statements.
-use crate::Pred;
+use crate::Condition;
 use s2_value::{Row, Seq, Value};
 use sqlite_items::Boxed;
 
@@ -58,7 +58,7 @@ pub struct Select {
     /// What it shows.
     pub items: Items,
     /// Which rows.
-    pub pred: Pred,
+    pub pred: Condition,
     /// In which order; ties, and all rows where there is none, go by row number.
     pub order: OrderList,
     /// At most how many rows.
@@ -74,9 +74,9 @@ pub enum Stmt {
     /// Inserts these rows.
     Insert(RowList),
     /// Sets columns of the rows that match.
-    Update(SetList, Boxed<Pred>),
+    Update(SetList, Condition),
     /// Deletes the rows that match.
-    Delete(Boxed<Pred>),
+    Delete(Condition),
     /// Reads.
     Select(Boxed<Select>),
     /// Begins a transaction.

@@ -1,6 +1,6 @@
 //! Predicates over rows, and sums at both ends of 64 bits.
 use super::{after, matches};
-use crate::{Op, Pred, SetExpr, SetList};
+use crate::{Condition, Op, Pred, SetExpr, SetList};
 use s2_value::{Row, Seq, Txt, Value, ValueList};
 use std::alloc::Global;
 use std::test::Fail;
@@ -30,7 +30,7 @@ fn values_of(alloc: Global, given: &[Given]) -> Result<ValueList, Fail> {
 
 fn holds(alloc: Global, left: Given, op: Op, right: Given) -> Result<bool, Fail> {
     let row = values_of(alloc, &[left])?;
-    let pred = Pred::Cmp(0, op, value_of(alloc, right)?);
+    let pred = Condition::new(alloc, Pred::Cmp(0, op, value_of(alloc, right)?))?;
     Ok(matches(&pred, &row))
 }
 
@@ -64,11 +64,11 @@ fn operators_compare(rt: HostRuntime) -> Result<(), Fail> {
 
 #[test]
 fn lists_of_values(rt: HostRuntime) -> Result<(), Fail> {
-    let some = Pred::OneOf(
-        0,
-        values_of(rt.alloc(), &[Number(2), Word("b"), Number(4)])?,
-    );
-    let none = Pred::OneOf(0, Seq::new(rt.alloc()));
+    let alloc = rt.alloc();
+    let listed = values_of(alloc, &[Number(2), Word("b"), Number(4)])?;
+    let some = Condition::new(alloc, Pred::OneOf(0, listed))?;
+    let none = Condition::new(alloc, Pred::OneOf(0, Seq::new(alloc)))?;
+    let all = Condition::new(alloc, Pred::All)?;
     let cases = [
         (Number(2), true),
         (Number(3), false),
@@ -80,7 +80,7 @@ fn lists_of_values(rt: HostRuntime) -> Result<(), Fail> {
         let row = values_of(rt.alloc(), &[given])?;
         assert_eq!(rt; matches(&some, &row), want, "{given:?}");
         assert!(rt; !matches(&none, &row));
-        assert!(rt; matches(&Pred::All, &row));
+        assert!(rt; matches(&all, &row));
     }
     Ok(())
 }
@@ -101,7 +101,7 @@ fn nest(alloc: Global) -> Result<Pred, Fail> {
 
 #[test]
 fn nests(rt: HostRuntime) -> Result<(), Fail> {
-    let pred = nest(rt.alloc())?;
+    let pred = Condition::new(rt.alloc(), nest(rt.alloc())?)?;
     let wants = [false, false, true, true, false, true];
     for (number, want) in wants.iter().enumerate() {
         let row = values_of(rt.alloc(), &[Number(number as i64)])?;
