@@ -4,7 +4,7 @@ use Rattle.std.specs.Prelude.{nat_lt, nat_le, nat_eq, ◌&&◌}
 use Rattle.std.specs.Ordering.{nat_cmp, is_gt}
 use Rattle.std.proofs.lemmas.Bool.{false≢true}
 use Rattle.std.proofs.lemmas.Bool.Decides.{nat_tests}
-use Rattle.s2_model.specs.declared.predicates.Pred.TheVariants.{All}
+use Rattle.s2_model.specs.Predicates.{every_row}
 use Rattle.s2_model.specs.Table.{Table, RowOf, put_row, rises_above}
 use Rattle.s2_model.specs.History.{History}
 use Rattle.s2_model.specs.Answer.{kept, ordered, insert_row}
@@ -74,7 +74,7 @@ ordered_all low (p ∷ rows) r =
     let up = tested low p.0 (rises_above p.0 rows) r in
     ap (insert_row [] p) (ordered_all p.0 rows up.1) ∙ insert_first p rows up.1
 
-pub kept_all : (rows : Table) → kept All rows ≡ rows
+pub kept_all : (rows : Table) → kept every_row rows ≡ rows
 kept_all [] = refl
 kept_all (p ∷ rows) = ap (λ l. p ∷ l) (kept_all rows)
 

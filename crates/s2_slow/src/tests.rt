@@ -1,7 +1,7 @@
 //! Worked histories: their placements entry by entry, and what their actors see.
 use crate::{answer, answer_of, pending, placement, state, view};
 use s2_model::{
-    Agg, Cell, CellTable, Change, ChangeList, Entry, EntryList, FlushNote, Items, MarkList,
+    Agg, Cell, CellTable, Change, ChangeList, Condition, Entry, EntryList, FlushNote, Items, MarkList,
     MergeNote, Pred, Select, What,
 };
 use s2_value::{Col, ColList, ColType, Name, Row, Schema, Seq, Txt, Value, are_within_limits};
@@ -326,7 +326,7 @@ fn aggregates(alloc: Global, aggs: &[Agg]) -> Result<Select, Fail> {
     let aggs = list_of(alloc, aggs)?;
     Ok(Select {
         items: Items::Aggs(aggs),
-        pred: Pred::All,
+        pred: Condition::new(alloc, Pred::All)?,
         order: Seq::new(alloc),
         limit: None,
     })

@@ -8,7 +8,7 @@ use Rattle.s2_value.specs.declared.schemas.Col.{Col}
 use Rattle.s2_value.specs.declared.schemas.Schema.{Schema}
 use Rattle.s2_value.specs.RowText.{row_text, separated}
 use Rattle.s2_value.specs.Schemas.{fits}
-use Rattle.s2_model.specs.declared.predicates.Pred.TheVariants.{All}
+use Rattle.s2_model.specs.Predicates as predicate
 use Rattle.s2_model.specs.declared.statements.Stmt.{Stmt}
 use Rattle.s2_model.specs.declared.statements.Stmt.TheVariants.{Insert, Select}
 use Rattle.s2_model.specs.declared.statements.Items.TheVariants.{Star}
@@ -64,7 +64,7 @@ are_named (c ∷ cols) = is_name c.name && not (has_name c.name cols) && are_nam
 
 -- all columns of all rows, in the order of their numbers
 abbrev pub every_row : Selection
-every_row = record { items = Star; pred = All; order = []; limit = None }
+every_row = record { items = Star; pred = predicate.every_row; order = []; limit = None }
 
 -- an INSERT of one row that fits the table, or a SELECT of every row
 abbrev pub IsFirstStmt : Schema → Stmt → Type 0

@@ -7,7 +7,7 @@ ghost use Rattle.s2_sqltext.specs.Reading.{Gives, AreLines, end_at, insert_at, s
 use crate::rows::row;
 use crate::stops::Stop;
 use crate::tokens::{after, past};
-use s2_model::{Items, Line, Pred, Select, Stmt};
+use s2_model::{Condition, Items, Line, Pred, Select, Stmt};
 use s2_value::{Schema, Seq};
 use sqlite_items::Boxed;
 use std::alloc::Global;
@@ -41,7 +41,7 @@ fn select<'a>(alloc: Global, schema: &Schema, bytes: &'a [u8]) -> Result<(Stmt, 
     let rest = past(schema.table.bytes(), past(b"SELECT * FROM ", bytes)?)?;
     let every_row = Select {
         items: Items::Star,
-        pred: Pred::All,
+        pred: Condition::new(alloc, Pred::All)?,
         order: Seq::new(alloc),
         limit: None,
     };

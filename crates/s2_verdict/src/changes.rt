@@ -4,7 +4,7 @@ ghost use Rattle.s2_model.specs.Rows.{after};
 ghost use Rattle.s2_model.specs.Answer.{kept};
 ghost use Rattle.s2_model.specs.Verdict.{puts_from, matched, updated, changes};
 
-use s2_model::{Change, Pred, SetList, Stmt, after};
+use s2_model::{Change, Condition, SetList, Stmt, after};
 use s2_slow::kept;
 use s2_value::{Duplicate, Memory, Row};
 use std::alloc::{AllocError, Global};
@@ -67,8 +67,8 @@ pub fn matched(alloc: Global, stmt: &Stmt, rows: &[(u64, Row)]) -> Result<Vec<(u
     ensures { IfOk result (λ v. v.items ≡ matched stmt.now rows.now) }
 {
     match stmt {
-        Stmt::Update(_, pred) => kept(alloc, pred.get(), rows),
-        Stmt::Delete(pred) => kept(alloc, pred.get(), rows),
+        Stmt::Update(_, pred) => kept(alloc, pred, rows),
+        Stmt::Delete(pred) => kept(alloc, pred, rows),
         _ => Ok(Vec::new(alloc)),
     }
 }
@@ -76,7 +76,7 @@ pub fn matched(alloc: Global, stmt: &Stmt, rows: &[(u64, Row)]) -> Result<Vec<(u
 fn updates(
     alloc: Global,
     sets: &SetList,
-    pred: &Pred,
+    pred: &Condition,
     rows: &[(u64, Row)],
 ) -> Result<Vec<Change>, Memory>
     ensures { IfOk result (λ cs. cs.items ≡ map (updated sets.now) (kept pred.now rows.now)) }
@@ -85,7 +85,7 @@ fn updates(
     updated(alloc, sets, &matching)
 }
 
-fn deletes(alloc: Global, pred: &Pred, rows: &[(u64, Row)]) -> Result<Vec<Change>, Memory>
+fn deletes(alloc: Global, pred: &Condition, rows: &[(u64, Row)]) -> Result<Vec<Change>, Memory>
     ensures { IfOk result (λ cs. cs.items ≡ map (λ p. Change.Drop p.0) (kept pred.now rows.now)) }
 {
     let matching = kept(alloc, pred, rows)?;
@@ -103,8 +103,8 @@ pub fn changes(
 {
     match stmt {
         Stmt::Insert(inserts) => inserted(alloc, inserts.as_slice(), greatest),
-        Stmt::Update(sets, pred) => updates(alloc, sets, pred.get(), rows),
-        Stmt::Delete(pred) => deletes(alloc, pred.get(), rows),
+        Stmt::Update(sets, pred) => updates(alloc, sets, pred, rows),
+        Stmt::Delete(pred) => deletes(alloc, pred, rows),
         _ => Ok(Vec::new(alloc)),
     }
 }

@@ -1,7 +1,7 @@
 //! Worked rows: each statement's reply and the entries that it makes.
 use crate::verdict;
 use s2_model::{
-    Entry, FlushNote, Items, Op, Pred, Refusal, Reply, RowList, Select, SetExpr, Stmt, What,
+    Condition, Entry, FlushNote, Items, Op, Pred, Refusal, Reply, RowList, Select, SetExpr, Stmt, What,
 };
 use s2_value::{Col, ColList, ColType, KeyList, Name, Schema, Seq, Value, are_within_limits};
 use sqlite_items::Boxed;
@@ -64,18 +64,18 @@ fn rows_of(alloc: Global, ids: &[i64]) -> Result<RowList, Fail> {
 fn add_one(alloc: Global) -> Result<Stmt, Fail> {
     let mut sets = Seq::new(alloc);
     sets.add((0, SetExpr::Plus(0, 1)))?;
-    Ok(Stmt::Update(sets, Boxed::new(alloc, Pred::All)?))
+    Ok(Stmt::Update(sets, Condition::new(alloc, Pred::All)?))
 }
 
 fn delete_id(alloc: Global, id: i64) -> Result<Stmt, Fail> {
     let pred = Pred::Cmp(0, Op::Eq, Value::Int(id));
-    Ok(Stmt::Delete(Boxed::new(alloc, pred)?))
+    Ok(Stmt::Delete(Condition::new(alloc, pred)?))
 }
 
 fn select_all(alloc: Global) -> Result<Stmt, Fail> {
     let select = Select {
         items: Items::Star,
-        pred: Pred::All,
+        pred: Condition::new(alloc, Pred::All)?,
         order: Seq::new(alloc),
         limit: None,
     };
