@@ -40,6 +40,14 @@ impl Log {
         Ok(())
     }
 
+    /// Makes room for so many more entries at once. The history stays as it was, also after want of memory.
+    pub fn reserve(&mut self, more: usize) -> Result<(), Memory>
+        ensures { self.new ≡ self.old }
+    {
+        self.entries.reserve_exact(more)?;
+        Ok(())
+    }
+
     /// How many entries there are.
     pub fn len(&self) -> usize
         ensures { result ≡ length self.now }
