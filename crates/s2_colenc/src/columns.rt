@@ -71,7 +71,21 @@ impl<'a> Column<'a> {
 
     /// Value `i`, from 0. It takes constant time, in a column of runs a step for each run up to the value's; a text is
     /// copied. A scan goes by `body` and takes a run at a time.
+    #[inline]
     pub fn at(&self, alloc: Global, i: u32) -> Result<Value, Memory>
+        requires { i < length (values_of self.now) }
+        ensures { IfOk result (λ v. v ≡ slice_index_or (values_of self.now) i v) }
+    {
+        match &self.body {
+            Body::Ints(plain) => Ok(Value::Int(plain.at(i))),
+            Body::Packed(packed) => Ok(Value::Int(packed.at(i))),
+            _ => self.any_at(alloc, i),
+        }
+    }
+
+    // The same, apart from the scan of numbers, which stays short.
+    #[inline(never)]
+    fn any_at(&self, alloc: Global, i: u32) -> Result<Value, Memory>
         requires { i < length (values_of self.now) }
         ensures { IfOk result (λ v. v ≡ slice_index_or (values_of self.now) i v) }
     {

@@ -9,6 +9,8 @@ mod replies;
 #[cfg(test)]
 mod tests;
 
-pub use outcomes::{print_history, print_output, print_transcripts};
+pub use outcomes::{
+    print_cells, print_entry, print_history, print_output, print_said, print_transcripts,
+};
 pub use s2_model::{Outcome, Said, Transcript};
 pub use s2_value::Memory;

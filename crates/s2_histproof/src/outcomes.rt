@@ -1,11 +1,11 @@
 //! How an outcome is written: what each session said, the history, and the end.
 ghost use Rattle.std.specs.Prelude.{◌≡◌, ◌++◌, OnOk, IfOk, codes};
 ghost use Rattle.std.specs.List.{flat_map};
-ghost use Rattle.s2_model.specs.OutputText.{said_text, transcript_text, history_text, output_text};
+ghost use Rattle.s2_model.specs.OutputText.{entry_text, said_text, table_line, transcript_text, history_text, output_text};
 
 use crate::pieces::{Printed, put, put_each, put_field, put_number, put_pair, put_word};
 use crate::replies::put_reply;
-use s2_model::{Entry, EntryList, Outcome, Said, Transcript, TranscriptList};
+use s2_model::{CellList, Entry, EntryList, Outcome, Said, Transcript, TranscriptList};
 use s2_value::Memory;
 use std::alloc::Global;
 
@@ -31,6 +31,27 @@ impl Printed for Transcript {
         put(out, b"\n")?;
         put_each(out, self.said.as_slice())
     }
+}
+
+/// Adds the line of a reply, after its timestamp and its fault count; an answer's rows follow, a line each. The `Err` is want of memory.
+pub fn print_said(said: &Said, out: &mut Vec<u8>) -> Result<(), Memory>
+    ensures { OnOk result (out.new.items ≡ out.old.items ++ said_text said.now) }
+{
+    said.put(out)
+}
+
+/// Adds the line of one row of an answer. The `Err` is want of memory.
+pub fn print_cells(cells: &CellList, out: &mut Vec<u8>) -> Result<(), Memory>
+    ensures { OnOk result (out.new.items ≡ out.old.items ++ table_line cells.now) }
+{
+    cells.put(out)
+}
+
+/// Adds the line of an entry, after its actor. The `Err` is want of memory.
+pub fn print_entry(entry: &Entry, out: &mut Vec<u8>) -> Result<(), Memory>
+    ensures { OnOk result (out.new.items ≡ out.old.items ++ entry_text entry.now) }
+{
+    entry.put(out)
 }
 
 /// Adds the text of the sessions: for each `SESSION`, its number, how many statements it has and its last fault count,

@@ -9,7 +9,8 @@ use Rattle.s2_pred.specs.declared.types.Test.{Test}
 use Rattle.s2_pred.specs.declared.types.Test.TheVariants.{Compare, OneOf}
 use Rattle.s2_pred.specs.Trees.{Tree, leaf, negated, paren, both, either, rank, IsGrouped}
 use Rattle.s2_pred.specs.Measures.{nesting}
-use Rattle.s2_pred.specs.Meaning.{Plain, every_row, compared, one_of, all_of, any_of, none_of, place_of, value_of, values_of, values_onto, compared_at, one_of_at, test_meaning, joined, meaning}
+use Rattle.s2_model.specs.Predicates.{Predicate, every_row, compared, one_of, all_of, any_of, none_of}
+use Rattle.s2_pred.specs.Meaning.{place_of, value_of, values_of, values_onto, compared_at, one_of_at, test_meaning, joined, meaning}
 use Rattle.s2_pred.specs.Printing.{literal_of, wrapped, at_most, printed, AreLiterals, IsPrintable}
 
 le_true : (a b : ℕ) → a ≤ b → nat_le a b ≡ true
@@ -45,7 +46,7 @@ length-map : (vs : List Value) → length (map literal_of vs) ≡ length vs
 length-map [] = refl
 length-map (v ∷ vs) = omega (arith, length-map vs)
 
-pub grouped : (cols : List Col) (p : Plain) → IsPrintable cols p → IsGrouped (printed cols p)
+pub grouped : (cols : List Col) (p : Predicate) → IsPrintable cols p → IsGrouped (printed cols p)
 grouped cols every_row h = absurd h
 grouped cols (compared c o v) h = tt
 grouped cols (one_of c vs) h = omega (arith, length-map vs, h.2)
@@ -64,17 +65,17 @@ wrapped_means : (cols : List Col) (b : Bool) (t : Tree) → meaning cols (wrappe
 wrapped_means cols true t = refl
 wrapped_means cols false t = refl
 
-side_means : (cols : List Col) (n : ℕ) (t : Tree) (p : Plain) → meaning cols t ≡ Some p → meaning cols (at_most n t) ≡ Some p
+side_means : (cols : List Col) (n : ℕ) (t : Tree) (p : Predicate) → meaning cols t ≡ Some p → meaning cols (at_most n t) ≡ Some p
 side_means cols n t p e = wrapped_means cols (nat_le (rank t) n) t ∙ e
 
 literals_mean : (vs : List Value) → AreLiterals vs → values_of (map literal_of vs) ≡ Some vs
 literals_mean [] h = refl
 literals_mean (v ∷ vs) h = ap (λ (o : Option Value). values_onto o (values_of (map literal_of vs))) h.0 ∙ ap (λ (o : Option (List Value)). values_onto (Some v) o) (literals_mean vs h.1)
 
-joined_means : (make : Plain → Plain → Plain) (m n : Option Plain) (p q : Plain) → m ≡ Some p → n ≡ Some q → joined make m n ≡ Some (make p q)
-joined_means make m n p q e f = ap (λ (o : Option Plain). joined make o n) e ∙ ap (λ (o : Option Plain). joined make (Some p) o) f
+joined_means : (make : Predicate → Predicate → Predicate) (m n : Option Predicate) (p q : Predicate) → m ≡ Some p → n ≡ Some q → joined make m n ≡ Some (make p q)
+joined_means make m n p q e f = ap (λ (o : Option Predicate). joined make o n) e ∙ ap (λ (o : Option Predicate). joined make (Some p) o) f
 
-pub means : (cols : List Col) (p : Plain) → IsPrintable cols p → meaning cols (printed cols p) ≡ Some p
+pub means : (cols : List Col) (p : Predicate) → IsPrintable cols p → meaning cols (printed cols p) ≡ Some p
 means cols every_row h = absurd h
 means cols (compared c o v) h =
     ap (λ (k : Option ℕ). compared_at k o (value_of (literal_of v))) h.0 ∙ ap (λ (w : Option Value). compared_at (Some c) o w) h.1
@@ -84,7 +85,7 @@ means cols (all_of p q) h =
     joined_means all_of _ _ p q (side_means cols 1 (printed cols p) p (means cols p h.0)) (side_means cols 0 (printed cols q) q (means cols q h.1))
 means cols (any_of p q) h =
     joined_means any_of _ _ p q (means cols p h.0) (side_means cols 1 (printed cols q) q (means cols q h.1))
-means cols (none_of p) h = ap (λ (o : Option Plain). option_map none_of o) (side_means cols 0 (printed cols p) p (means cols p h))
+means cols (none_of p) h = ap (λ (o : Option Predicate). option_map none_of o) (side_means cols 0 (printed cols p) p (means cols p h))
 
 -- no deeper
 
@@ -92,39 +93,39 @@ record IsLeaf (t : Tree) : Type 0 where
   rank_is : rank t ≡ 0
   nesting_is : nesting t ≡ 0
 
-compared_leaf : (cols : List Col) (c : Option ℕ) (o : Op) (v : Option Value) (p : Plain) → compared_at c o v ≡ Some p → IsLeaf (printed cols p)
+compared_leaf : (cols : List Col) (c : Option ℕ) (o : Op) (v : Option Value) (p : Predicate) → compared_at c o v ≡ Some p → IsLeaf (printed cols p)
 compared_leaf cols None o v p e = absurd (cc)
 compared_leaf cols (Some c) o None p e = absurd (cc)
 compared_leaf cols (Some c) o (Some w) p e = let f : compared c o w ≡ p = cc in rw (← f) (record { rank_is = refl; nesting_is = refl })
 
-one_of_leaf : (cols : List Col) (c : Option ℕ) (vs : Option (List Value)) (p : Plain) → one_of_at c vs ≡ Some p → IsLeaf (printed cols p)
+one_of_leaf : (cols : List Col) (c : Option ℕ) (vs : Option (List Value)) (p : Predicate) → one_of_at c vs ≡ Some p → IsLeaf (printed cols p)
 one_of_leaf cols None vs p e = absurd (cc)
 one_of_leaf cols (Some c) None p e = absurd (cc)
 one_of_leaf cols (Some c) (Some ws) p e = let f : one_of c ws ≡ p = cc in rw (← f) (record { rank_is = refl; nesting_is = refl })
 
-test_leaf : (cols : List Col) (x : Test) (p : Plain) → test_meaning cols x ≡ Some p → IsLeaf (printed cols p)
+test_leaf : (cols : List Col) (x : Test) (p : Predicate) → test_meaning cols x ≡ Some p → IsLeaf (printed cols p)
 test_leaf cols (Compare column o x) p e = compared_leaf cols (place_of cols column) o (value_of x) p e
 test_leaf cols (OneOf column xs) p e = one_of_leaf cols (place_of cols column) (values_of xs) p e
 
 -- what two sides mean
-pub record Sides (make : Plain → Plain → Plain) (m n : Option Plain) (p : Plain) : Type 0 where
-  pub left : Plain
-  pub right : Plain
+pub record Sides (make : Predicate → Predicate → Predicate) (m n : Option Predicate) (p : Predicate) : Type 0 where
+  pub left : Predicate
+  pub right : Predicate
   pub left_is : m ≡ Some left
   pub right_is : n ≡ Some right
   pub is : p ≡ make left right
 
-pub sides : (make : Plain → Plain → Plain) (m n : Option Plain) (p : Plain) → joined make m n ≡ Some p → Sides make m n p
+pub sides : (make : Predicate → Predicate → Predicate) (m n : Option Predicate) (p : Predicate) → joined make m n ≡ Some p → Sides make m n p
 sides make None n p e = absurd (cc)
 sides make (Some a) None p e = absurd (cc)
 sides make (Some a) (Some b) p e = record { left = a; right = b; left_is = refl; right_is = refl; is = cc }
 
-pub record Inner (m : Option Plain) (p : Plain) : Type 0 where
-  pub inside : Plain
+pub record Inner (m : Option Predicate) (p : Predicate) : Type 0 where
+  pub inside : Predicate
   pub inside_is : m ≡ Some inside
   pub is : p ≡ none_of inside
 
-pub inner : (m : Option Plain) (p : Plain) → option_map none_of m ≡ Some p → Inner m p
+pub inner : (m : Option Predicate) (p : Predicate) → option_map none_of m ≡ Some p → Inner m p
 inner None p e = absurd (cc)
 inner (Some a) p e = record { inside = a; inside_is = refl; is = cc }
 
@@ -133,7 +134,7 @@ wrapped_nests true t = omega arith
 wrapped_nests false t = omega arith
 
 abbrev Shallow : List Col → Tree → Type 0
-Shallow cols t = (p : Plain) → meaning cols t ≡ Some p → (n : ℕ) → rank t ≤ n → nesting (at_most n (printed cols p)) ≤ nesting t
+Shallow cols t = (p : Predicate) → meaning cols t ≡ Some p → (n : ℕ) → rank t ≤ n → nesting (at_most n (printed cols p)) ≤ nesting t
 
 low_nests : (n m : ℕ) (t : Tree) → rank t ≤ n → nesting t ≤ m → nesting (at_most n t) ≤ m
 low_nests n m t r h = rw (low n t r) h
@@ -149,7 +150,7 @@ negated_shallow cols t f g p e n r =
     let k = inner (meaning cols t) p e in
     rw k.is (low_nests n (nesting t + 1) (printed cols (none_of k.inside)) (omega arith) (omega (arith, f k.inside k.inside_is 0 g)))
 
-plain_nests : (cols : List Col) (t : Tree) → Shallow cols t → (p : Plain) → meaning cols t ≡ Some p → nesting (printed cols p) ≤ nesting t
+plain_nests : (cols : List Col) (t : Tree) → Shallow cols t → (p : Predicate) → meaning cols t ≡ Some p → nesting (printed cols p) ≤ nesting t
 plain_nests cols t f p e = rw (low 2 (printed cols p) (rank_two (printed cols p))) at (f p e 2 (rank_two t))
 
 paren_shallow : (cols : List Col) (t : Tree) → Shallow cols t → Shallow cols (paren t)
@@ -175,5 +176,5 @@ shallow cols (paren t) g = paren_shallow cols t (shallow cols t g)
 shallow cols (both t u) g = both_shallow cols t u (shallow cols t g.0) (shallow cols u g.2) g.1 g.3
 shallow cols (either t u) g = either_shallow cols t u (shallow cols t g.0) (shallow cols u g.1) g.2
 
-pub no_deeper : (cols : List Col) (t : Tree) (p : Plain) → IsGrouped t → meaning cols t ≡ Some p → nesting (printed cols p) ≤ nesting t
+pub no_deeper : (cols : List Col) (t : Tree) (p : Predicate) → IsGrouped t → meaning cols t ≡ Some p → nesting (printed cols p) ≤ nesting t
 no_deeper cols t p g e = plain_nests cols t (shallow cols t g) p e

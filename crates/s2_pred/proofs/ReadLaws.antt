@@ -13,7 +13,8 @@ use Rattle.s2_model.specs.declared.predicates.Op.{Op}
 use Rattle.s2_pred.specs.declared.types.Test.{Test}
 use Rattle.s2_pred.specs.declared.types.Test.TheVariants.{Compare, OneOf}
 use Rattle.s2_pred.specs.Trees.{Tree, leaf, negated, paren, both, either, IsGrouped, IsTest}
-use Rattle.s2_pred.specs.Meaning.{Plain, compared, one_of, all_of, any_of, none_of, place_from, place_of, number_of, value_of, values_of, values_onto, compared_at, one_of_at, test_meaning, meaning}
+use Rattle.s2_model.specs.Predicates.{Predicate, compared, one_of, all_of, any_of, none_of}
+use Rattle.s2_pred.specs.Meaning.{place_from, place_of, number_of, value_of, values_of, values_onto, compared_at, one_of_at, test_meaning, meaning}
 use Rattle.s2_pred.specs.Printing.{number_literal, name_at, IsPlace, IsLiteral, AreLiterals, IsPrintable}
 use Rattle.s2_pred.proofs.PrintLaws.{inner, sides}
 
@@ -97,12 +98,12 @@ place_again cols name c e =
 
 -- tests
 
-compared_again : (cols : List Col) (c : Option ℕ) (o : Op) (v : Option Value) (p : Plain) → ((d : ℕ) → c ≡ Some d → IsPlace cols d) → ((w : Value) → v ≡ Some w → IsLiteral w) → compared_at c o v ≡ Some p → IsPrintable cols p
+compared_again : (cols : List Col) (c : Option ℕ) (o : Op) (v : Option Value) (p : Predicate) → ((d : ℕ) → c ≡ Some d → IsPlace cols d) → ((w : Value) → v ≡ Some w → IsLiteral w) → compared_at c o v ≡ Some p → IsPrintable cols p
 compared_again cols None o v p f g e = absurd (cc)
 compared_again cols (Some c) o None p f g e = absurd (cc)
 compared_again cols (Some c) o (Some w) p f g e = let h : compared c o w ≡ p = cc in rw (← h) (f c refl, g w refl)
 
-one_of_again : (cols : List Col) (c : Option ℕ) (xs : List Literal) (vs : Option (List Value)) (p : Plain) → 0 < length xs → ((d : ℕ) → c ≡ Some d → IsPlace cols d) → ((ws : List Value) → vs ≡ Some ws → Values xs ws) → one_of_at c vs ≡ Some p → IsPrintable cols p
+one_of_again : (cols : List Col) (c : Option ℕ) (xs : List Literal) (vs : Option (List Value)) (p : Predicate) → 0 < length xs → ((d : ℕ) → c ≡ Some d → IsPlace cols d) → ((ws : List Value) → vs ≡ Some ws → Values xs ws) → one_of_at c vs ≡ Some p → IsPrintable cols p
 one_of_again cols None xs vs p some f g e = absurd (cc)
 one_of_again cols (Some c) xs None p some f g e = absurd (cc)
 one_of_again cols (Some c) xs (Some ws) p some f g e =
@@ -110,7 +111,7 @@ one_of_again cols (Some c) xs (Some ws) p some f g e =
     let k = g ws refl in
     rw (← h) (f c refl, k.are, omega (arith, k.length_is))
 
-test_again : (cols : List Col) (x : Test) (p : Plain) → IsTest x → test_meaning cols x ≡ Some p → IsPrintable cols p
+test_again : (cols : List Col) (x : Test) (p : Predicate) → IsTest x → test_meaning cols x ≡ Some p → IsPrintable cols p
 test_again cols (Compare column o x) p i e =
     compared_again cols (place_of cols column) o (value_of x) p (λ d f. place_again cols column d f) (λ w f. literal_again x w f) e
 test_again cols (OneOf column xs) p i e =
@@ -118,10 +119,10 @@ test_again cols (OneOf column xs) p i e =
 
 -- trees
 
-along : (cols : List Col) (p q : Plain) → p ≡ q → IsPrintable cols q → IsPrintable cols p
-along cols p q e h = subst (λ (r : Plain). IsPrintable cols r) (sym e) h
+along : (cols : List Col) (p q : Predicate) → p ≡ q → IsPrintable cols q → IsPrintable cols p
+along cols p q e h = subst (λ (r : Predicate). IsPrintable cols r) (sym e) h
 
-pub printable : (cols : List Col) (t : Tree) (p : Plain) → IsGrouped t → meaning cols t ≡ Some p → IsPrintable cols p
+pub printable : (cols : List Col) (t : Tree) (p : Predicate) → IsGrouped t → meaning cols t ≡ Some p → IsPrintable cols p
 printable cols (leaf x) p g e = test_again cols x p g e
 printable cols (negated t) p g e =
     let k = inner (meaning cols t) p e in along cols p (none_of k.inside) k.is (printable cols t k.inside g.0 k.inside_is)

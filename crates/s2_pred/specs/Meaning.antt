@@ -9,28 +9,10 @@ use Rattle.s2_value.specs.Text.{is_txt}
 use Rattle.s2_token.specs.declared.types.Literal.{Literal}
 use Rattle.s2_token.specs.declared.types.Literal.TheVariants as literal
 use Rattle.s2_model.specs.declared.predicates.Op.{Op}
-use Rattle.s2_model.specs.declared.predicates.Pred.{Pred}
-use Rattle.s2_model.specs.declared.predicates.Pred.TheVariants as pred
+use Rattle.s2_model.specs.Predicates.{Predicate, compared, one_of, all_of, any_of, none_of}
 use Rattle.s2_pred.specs.declared.types.Test.{Test}
 use Rattle.s2_pred.specs.declared.types.Test.TheVariants.{Compare, OneOf}
 use Rattle.s2_pred.specs.Trees.{Tree, leaf, negated, paren, both, either}
-
--- a predicate over places and values, wherever it lies in memory
-pub data Plain : Type 0 where
-  every_row : Plain
-  compared : (place : ℕ) (op : Op) (with : Value) → Plain
-  one_of : (place : ℕ) (values : List Value) → Plain
-  all_of : (left right : Plain) → Plain
-  any_of : (left right : Plain) → Plain
-  none_of : (inner : Plain) → Plain
-
-abbrev pub bare : Pred → Plain
-bare pred.All = every_row
-bare (pred.Cmp c o v) = compared c o v
-bare (pred.OneOf c vs) = one_of c vs
-bare (pred.And' a p b q) = all_of (bare p) (bare q)
-bare (pred.Or' a p b q) = any_of (bare p) (bare q)
-bare (pred.Not' a p) = none_of (bare p)
 
 -- names and literals
 
@@ -62,23 +44,23 @@ values_of (x ∷ xs) = values_onto (value_of x) (values_of xs)
 
 -- the meaning, where each name is a column and each literal a value
 
-abbrev pub compared_at : Option ℕ → Op → Option Value → Option Plain
+abbrev pub compared_at : Option ℕ → Op → Option Value → Option Predicate
 compared_at None o v = None
 compared_at (Some c) o v = option_map (λ w. compared c o w) v
 
-abbrev pub one_of_at : Option ℕ → Option (List Value) → Option Plain
+abbrev pub one_of_at : Option ℕ → Option (List Value) → Option Predicate
 one_of_at None vs = None
 one_of_at (Some c) vs = option_map (λ ws. one_of c ws) vs
 
-abbrev pub test_meaning : List Col → Test → Option Plain
+abbrev pub test_meaning : List Col → Test → Option Predicate
 test_meaning cols (Compare column o x) = compared_at (place_of cols column) o (value_of x)
 test_meaning cols (OneOf column xs) = one_of_at (place_of cols column) (values_of xs)
 
-abbrev pub joined : (Plain → Plain → Plain) → Option Plain → Option Plain → Option Plain
+abbrev pub joined : (Predicate → Predicate → Predicate) → Option Predicate → Option Predicate → Option Predicate
 joined make None q = None
 joined make (Some p) q = option_map (make p) q
 
-abbrev pub meaning : List Col → Tree → Option Plain
+abbrev pub meaning : List Col → Tree → Option Predicate
 meaning cols (leaf x) = test_meaning cols x
 meaning cols (negated p) = option_map none_of (meaning cols p)
 meaning cols (paren p) = meaning cols p

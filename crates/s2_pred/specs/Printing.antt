@@ -10,7 +10,8 @@ use Rattle.s2_token.specs.declared.types.Token.TheVariants as token
 use Rattle.s2_token.specs.declared.types.Symbol.TheVariants as symbol
 use Rattle.s2_pred.specs.declared.types.Test.TheVariants.{Compare, OneOf}
 use Rattle.s2_pred.specs.Trees.{Tree, leaf, negated, paren, both, either, rank}
-use Rattle.s2_pred.specs.Meaning.{Plain, every_row, compared, one_of, all_of, any_of, none_of, place_of, value_of}
+use Rattle.s2_model.specs.Predicates.{Predicate, every_row, compared, one_of, all_of, any_of, none_of}
+use Rattle.s2_pred.specs.Meaning.{place_of, value_of}
 
 abbrev pub number_literal : ℤ → Literal
 number_literal (pos n) = literal.Number false n
@@ -36,7 +37,7 @@ wrapped false t = paren t
 abbrev pub at_most : ℕ → Tree → Tree
 at_most n t = wrapped (nat_le (rank t) n) t
 
-abbrev pub printed : List Col → Plain → Tree
+abbrev pub printed : List Col → Predicate → Tree
 printed cols every_row = leaf (OneOf [] [])
 printed cols (compared c o v) = leaf (Compare (name_at cols c) o (literal_of v))
 printed cols (one_of c vs) = leaf (OneOf (name_at cols c) (map literal_of vs))
@@ -58,7 +59,7 @@ AreLiterals [] = Unit {0}
 AreLiterals (v ∷ vs) = IsLiteral v × AreLiterals vs
 
 -- none of its parts is all rows, which has no words
-abbrev pub IsWritten : Plain → Type 0
+abbrev pub IsWritten : Predicate → Type 0
 IsWritten every_row = ⊥
 IsWritten (compared c o v) = Unit {0}
 IsWritten (one_of c vs) = Unit {0}
@@ -67,7 +68,7 @@ IsWritten (any_of p q) = IsWritten p × IsWritten q
 IsWritten (none_of p) = IsWritten p
 
 -- its columns are the table's, its values can be written, and none of its parts is all rows
-abbrev pub IsPrintable : List Col → Plain → Type 0
+abbrev pub IsPrintable : List Col → Predicate → Type 0
 IsPrintable cols every_row = ⊥
 IsPrintable cols (compared c o v) = IsPlace cols c × IsLiteral v
 IsPrintable cols (one_of c vs) = IsPlace cols c × AreLiterals vs × (0 < length vs)
@@ -75,7 +76,7 @@ IsPrintable cols (all_of p q) = IsPrintable cols p × IsPrintable cols q
 IsPrintable cols (any_of p q) = IsPrintable cols p × IsPrintable cols q
 IsPrintable cols (none_of p) = IsPrintable cols p
 
-pub IsWritten-printable : (cols : List Col) (p : Plain) → IsPrintable cols p → IsWritten p
+pub IsWritten-printable : (cols : List Col) (p : Predicate) → IsPrintable cols p → IsWritten p
 IsWritten-printable cols every_row h = h
 IsWritten-printable cols (compared c o v) h = tt
 IsWritten-printable cols (one_of c vs) h = tt

@@ -1,12 +1,13 @@
 //! Predicates over places and values, built from written ones.
 ghost use Rattle.std.specs.Prelude.{◌≡◌, ◌≤◌, [], None, Some, length, map, OnOk, IfOk, IsErrOf};
-ghost use Rattle.s2_pred.specs.Meaning.{Plain, bare, test_meaning, all_of, any_of};
+ghost use Rattle.s2_model.specs.Predicates.{Predicate, predicate_of, all_of, any_of};
+ghost use Rattle.s2_pred.specs.Meaning.{test_meaning};
 ghost use Rattle.s2_pred.specs.Building.{Building, built, built_on, one_built, two_built, outcome, first_built};
 
 use crate::stacks::Stack;
 use crate::values::{Unbuilt, place, value, values};
 use crate::{Join, LiteralList, Test};
-use s2_model::{Op, Pred};
+use s2_model::{Condition, Op, Pred};
 use s2_token::{Bytes, Literal};
 use s2_value::{Col, Memory};
 use std::alloc::Global;
@@ -19,7 +20,7 @@ fn compared(
     literal: &Literal,
 ) -> Result<Pred, Unbuilt>
     requires { length cols.now ≤ 16 }
-    ensures ok { IfOk result (λ p. test_meaning cols.now (Test.Compare column.now op literal.now) ≡ Some (bare p)) }
+    ensures ok { IfOk result (λ p. test_meaning cols.now (Test.Compare column.now op literal.now) ≡ Some (predicate_of p)) }
     ensures unresolved { IsErrOf result Unbuilt.Unresolved → test_meaning cols.now (Test.Compare column.now op literal.now) ≡ None }
 {
     match place(cols, column.as_slice()) {
@@ -38,7 +39,7 @@ fn one_of(
     literals: &LiteralList,
 ) -> Result<Pred, Unbuilt>
     requires { length cols.now ≤ 16 }
-    ensures ok { IfOk result (λ p. test_meaning cols.now (Test.OneOf column.now literals.now) ≡ Some (bare p)) }
+    ensures ok { IfOk result (λ p. test_meaning cols.now (Test.OneOf column.now literals.now) ≡ Some (predicate_of p)) }
     ensures unresolved { IsErrOf result Unbuilt.Unresolved → test_meaning cols.now (Test.OneOf column.now literals.now) ≡ None }
 {
     match place(cols, column.as_slice()) {
@@ -52,7 +53,7 @@ fn one_of(
 
 fn test_pred(alloc: Global, cols: &[Col], test: &Test) -> Result<Pred, Unbuilt>
     requires { length cols.now ≤ 16 }
-    ensures ok { IfOk result (λ p. test_meaning cols.now test.now ≡ Some (bare p)) }
+    ensures ok { IfOk result (λ p. test_meaning cols.now test.now ≡ Some (predicate_of p)) }
     ensures unresolved { IsErrOf result Unbuilt.Unresolved → test_meaning cols.now test.now ≡ None }
 {
     match test {
@@ -66,7 +67,7 @@ fn test_pred(alloc: Global, cols: &[Col], test: &Test) -> Result<Pred, Unbuilt>
 }
 
 fn negate(alloc: Global, made: &mut Stack<Pred>) -> Result<(), Memory>
-    ensures { OnOk result (map bare made.new ≡ one_built (map bare made.old)) }
+    ensures { OnOk result (map predicate_of made.new ≡ one_built (map predicate_of made.old)) }
 {
     match made.pop() {
         Some(pred) => {
@@ -78,7 +79,7 @@ fn negate(alloc: Global, made: &mut Stack<Pred>) -> Result<(), Memory>
 }
 
 fn both(alloc: Global, left: Pred, right: Pred) -> Result<Pred, Memory>
-    ensures { IfOk result (λ p. bare p ≡ all_of (bare left) (bare right)) }
+    ensures { IfOk result (λ p. predicate_of p ≡ all_of (predicate_of left) (predicate_of right)) }
 {
     let left = Box::new(alloc, left)?;
     let right = Box::new(alloc, right)?;
@@ -86,7 +87,7 @@ fn both(alloc: Global, left: Pred, right: Pred) -> Result<Pred, Memory>
 }
 
 fn either(alloc: Global, left: Pred, right: Pred) -> Result<Pred, Memory>
-    ensures { IfOk result (λ p. bare p ≡ any_of (bare left) (bare right)) }
+    ensures { IfOk result (λ p. predicate_of p ≡ any_of (predicate_of left) (predicate_of right)) }
 {
     let left = Box::new(alloc, left)?;
     let right = Box::new(alloc, right)?;
@@ -94,7 +95,7 @@ fn either(alloc: Global, left: Pred, right: Pred) -> Result<Pred, Memory>
 }
 
 fn join_both(alloc: Global, made: &mut Stack<Pred>) -> Result<(), Memory>
-    ensures { OnOk result (map bare made.new ≡ two_built all_of (map bare made.old)) }
+    ensures { OnOk result (map predicate_of made.new ≡ two_built all_of (map predicate_of made.old)) }
 {
     match made.pop() {
         Some(right) => match made.pop() {
@@ -106,7 +107,7 @@ fn join_both(alloc: Global, made: &mut Stack<Pred>) -> Result<(), Memory>
 }
 
 fn join_either(alloc: Global, made: &mut Stack<Pred>) -> Result<(), Memory>
-    ensures { OnOk result (map bare made.new ≡ two_built any_of (map bare made.old)) }
+    ensures { OnOk result (map predicate_of made.new ≡ two_built any_of (map predicate_of made.old)) }
 {
     match made.pop() {
         Some(right) => match made.pop() {
@@ -124,8 +125,8 @@ fn add_test<'a>(
     left: &'a [Test],
 ) -> Result<&'a [Test], Unbuilt>
     requires { length cols.now ≤ 16 }
-    ensures ok { IfOk result (λ rest. built cols.now Join.Test (record { built = map bare made.old; left = left.now }) ≡ Some (record { built = map bare made.new; left = rest.now })) }
-    ensures unresolved { IsErrOf result Unbuilt.Unresolved → built cols.now Join.Test (record { built = map bare made.old; left = left.now }) ≡ None }
+    ensures ok { IfOk result (λ rest. built cols.now Join.Test (record { built = map predicate_of made.old; left = left.now }) ≡ Some (record { built = map predicate_of made.new; left = rest.now })) }
+    ensures unresolved { IsErrOf result Unbuilt.Unresolved → built cols.now Join.Test (record { built = map predicate_of made.old; left = left.now }) ≡ None }
 {
     match left {
         [test, rest @ ..] => {
@@ -144,8 +145,8 @@ fn add_join<'a>(
     left: &'a [Test],
 ) -> Result<&'a [Test], Unbuilt>
     requires { length cols.now ≤ 16 }
-    ensures ok { IfOk result (λ rest. built cols.now join (record { built = map bare made.old; left = left.now }) ≡ Some (record { built = map bare made.new; left = rest.now })) }
-    ensures unresolved { IsErrOf result Unbuilt.Unresolved → built cols.now join (record { built = map bare made.old; left = left.now }) ≡ None }
+    ensures ok { IfOk result (λ rest. built cols.now join (record { built = map predicate_of made.old; left = left.now }) ≡ Some (record { built = map predicate_of made.new; left = rest.now })) }
+    ensures unresolved { IsErrOf result Unbuilt.Unresolved → built cols.now join (record { built = map predicate_of made.old; left = left.now }) ≡ None }
 {
     match join {
         Join::Test => add_test(alloc, cols, made, left),
@@ -173,7 +174,7 @@ fn build_all(
     tests: &[Test],
 ) -> Result<Stack<Pred>, Unbuilt>
     requires { length cols.now ≤ 16 }
-    ensures ok { IfOk result (λ made. outcome (built_on cols.now joins.now (Some (record { built = []; left = tests.now }))) ≡ Some (first_built (map bare made))) }
+    ensures ok { IfOk result (λ made. outcome (built_on cols.now joins.now (Some (record { built = []; left = tests.now }))) ≡ Some (first_built (map predicate_of made))) }
     ensures unresolved { IsErrOf result Unbuilt.Unresolved → outcome (built_on cols.now joins.now (Some (record { built = []; left = tests.now }))) ≡ None }
 {
     let mut made = Stack::new(alloc);
@@ -186,15 +187,9 @@ fn build_all(
     Ok(made)
 }
 
-/// The predicate of a postfix form.
-pub(crate) fn build(
-    alloc: Global,
-    cols: &[Col],
-    joins: &[Join],
-    tests: &[Test],
-) -> Result<Pred, Unbuilt>
+fn build_pred(alloc: Global, cols: &[Col], joins: &[Join], tests: &[Test]) -> Result<Pred, Unbuilt>
     requires { length cols.now ≤ 16 }
-    ensures ok { IfOk result (λ p. outcome (built_on cols.now joins.now (Some (record { built = []; left = tests.now }))) ≡ Some (bare p)) }
+    ensures ok { IfOk result (λ p. outcome (built_on cols.now joins.now (Some (record { built = []; left = tests.now }))) ≡ Some (predicate_of p)) }
     ensures unresolved { IsErrOf result Unbuilt.Unresolved → outcome (built_on cols.now joins.now (Some (record { built = []; left = tests.now }))) ≡ None }
 {
     let mut made = build_all(alloc, cols, joins, tests)?;
@@ -202,4 +197,19 @@ pub(crate) fn build(
         Some(pred) => Ok(pred),
         None => Ok(Pred::All),
     }
+}
+
+/// The condition of a postfix form.
+pub(crate) fn build(
+    alloc: Global,
+    cols: &[Col],
+    joins: &[Join],
+    tests: &[Test],
+) -> Result<Condition, Unbuilt>
+    requires { length cols.now ≤ 16 }
+    ensures ok { IfOk result (λ p. outcome (built_on cols.now joins.now (Some (record { built = []; left = tests.now }))) ≡ Some p) }
+    ensures unresolved { IsErrOf result Unbuilt.Unresolved → outcome (built_on cols.now joins.now (Some (record { built = []; left = tests.now }))) ≡ None }
+{
+    let pred = build_pred(alloc, cols, joins, tests)?;
+    Ok(Condition::new(alloc, pred)?)
 }

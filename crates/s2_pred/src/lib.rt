@@ -20,5 +20,5 @@ pub use faults::Fault;
 pub use printing::{TokenList, print_pred, printed_reads_back};
 pub use reading::{no_end_inside, one_predicate, pred};
 pub use types::{Join, LiteralList, Test};
-pub use values::Unbuilt;
+pub use values::{Unbuilt, number, place, value};
 pub use written::Written;

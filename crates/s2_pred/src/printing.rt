@@ -5,10 +5,11 @@ ghost use Rattle.s2_value.specs.declared.schemas.Col.{Col};
 ghost use Rattle.s2_token.specs.declared.types.Token.TheVariants as token;
 ghost use Rattle.s2_pred.specs.Trees.{Tree, IsGrouped, words, rank, list_words, more_words, op_symbol};
 ghost use Rattle.s2_pred.specs.Measures.{nesting};
-ghost use Rattle.s2_pred.specs.Meaning.{Plain, bare, meaning, compared, one_of};
+ghost use Rattle.s2_model.specs.Predicates.{Predicate, predicate_of, compared, one_of};
+ghost use Rattle.s2_pred.specs.Meaning.{meaning};
 ghost use Rattle.s2_pred.specs.Printing.{literal_of, name_at, printed, opening, closing, IsPrintable, IsWritten};
 
-use s2_model::{Op, Pred};
+use s2_model::{Condition, Op, Pred};
 use s2_token::{Keyword, Symbol, Token};
 use s2_value::{Col, Memory, Seq, Value};
 use std::alloc::Global;
@@ -78,7 +79,7 @@ fn values(alloc: Global, values: &[Value], tokens: &mut TokenList) -> Result<(),
 }
 
 fn rank(pred: &Pred, cols: &[Col]) -> u8
-    ensures { result ≡ rank (printed cols.now (bare pred.now)) }
+    ensures { result ≡ rank (printed cols.now (predicate_of pred.now)) }
 {
     match pred {
         Pred::And(..) => 1,
@@ -88,7 +89,7 @@ fn rank(pred: &Pred, cols: &[Col]) -> u8
 }
 
 fn fits(pred: &Pred, cols: &[Col], most: u8) -> bool
-    ensures { result ≡ nat_le (rank (printed cols.now (bare pred.now))) most }
+    ensures { result ≡ nat_le (rank (printed cols.now (predicate_of pred.now))) most }
 {
     rank(pred, cols) <= most
 }
@@ -143,15 +144,9 @@ fn one_of(
     Ok(())
 }
 
-/// Adds the words of a predicate, with parentheses only where the grammar would group otherwise.
-pub fn print_pred(
-    alloc: Global,
-    cols: &[Col],
-    pred: &Pred,
-    tokens: &mut TokenList,
-) -> Result<(), Memory>
-    requires { IsWritten (bare pred.now) }
-    ensures { OnOk result (tokens.new ≡ tokens.old ++ words (printed cols.now (bare pred.now))) }
+fn print(alloc: Global, cols: &[Col], pred: &Pred, tokens: &mut TokenList) -> Result<(), Memory>
+    requires { IsWritten (predicate_of pred.now) }
+    ensures { OnOk result (tokens.new ≡ tokens.old ++ words (printed cols.now (predicate_of pred.now))) }
 {
     match pred {
         Pred::All => Ok(()),
@@ -160,21 +155,21 @@ pub fn print_pred(
         Pred::And(left, right) => {
             let is_plain = fits(left, cols, 1);
             open(is_plain, tokens)?;
-            print_pred(alloc, cols, left, tokens)?;
+            print(alloc, cols, left, tokens)?;
             close(is_plain, tokens)?;
             tokens.add(Token::Key(Keyword::And))?;
             let is_plain = fits(right, cols, 0);
             open(is_plain, tokens)?;
-            print_pred(alloc, cols, right, tokens)?;
+            print(alloc, cols, right, tokens)?;
             close(is_plain, tokens)?;
             Ok(())
         }
         Pred::Or(left, right) => {
-            print_pred(alloc, cols, left, tokens)?;
+            print(alloc, cols, left, tokens)?;
             tokens.add(Token::Key(Keyword::Or))?;
             let is_plain = fits(right, cols, 1);
             open(is_plain, tokens)?;
-            print_pred(alloc, cols, right, tokens)?;
+            print(alloc, cols, right, tokens)?;
             close(is_plain, tokens)?;
             Ok(())
         }
@@ -182,18 +177,31 @@ pub fn print_pred(
             tokens.add(Token::Key(Keyword::Not))?;
             let is_plain = fits(inner, cols, 0);
             open(is_plain, tokens)?;
-            print_pred(alloc, cols, inner, tokens)?;
+            print(alloc, cols, inner, tokens)?;
             close(is_plain, tokens)?;
             Ok(())
         }
     }
 }
 
+/// Adds the words of a condition, with parentheses only where the grammar would group otherwise.
+pub fn print_pred(
+    alloc: Global,
+    cols: &[Col],
+    condition: &Condition,
+    tokens: &mut TokenList,
+) -> Result<(), Memory>
+    requires { IsWritten condition.now }
+    ensures { OnOk result (tokens.new ≡ tokens.old ++ words (printed cols.now condition.now)) }
+{
+    print(alloc, cols, condition.pred(), tokens)
+}
+
 /// What is printed is a predicate of the grammar, means the same, and nests no deeper than any text of this meaning. What a
 /// predicate of the grammar means can be printed.
 pub fn printed_reads_back()
-    ensures grouped { (cols : List Col) (p : Plain) → IsPrintable cols p → IsGrouped (printed cols p) }
-    ensures same { (cols : List Col) (p : Plain) → IsPrintable cols p → meaning cols (printed cols p) ≡ Some p }
-    ensures printable { (cols : List Col) (p : Plain) (tree : Tree) → IsGrouped tree → meaning cols tree ≡ Some p → IsPrintable cols p }
-    ensures no_deeper { (cols : List Col) (p : Plain) (tree : Tree) → IsGrouped tree → meaning cols tree ≡ Some p → nesting (printed cols p) ≤ nesting tree }
+    ensures grouped { (cols : List Col) (p : Predicate) → IsPrintable cols p → IsGrouped (printed cols p) }
+    ensures same { (cols : List Col) (p : Predicate) → IsPrintable cols p → meaning cols (printed cols p) ≡ Some p }
+    ensures printable { (cols : List Col) (p : Predicate) (tree : Tree) → IsGrouped tree → meaning cols tree ≡ Some p → IsPrintable cols p }
+    ensures no_deeper { (cols : List Col) (p : Predicate) (tree : Tree) → IsGrouped tree → meaning cols tree ≡ Some p → nesting (printed cols p) ≤ nesting tree }
 {}

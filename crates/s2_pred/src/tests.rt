@@ -1,5 +1,5 @@
 use super::*;
-use s2_model::{Op, Pred};
+use s2_model::{Condition, Op, Pred};
 use s2_token::{Bytes, Keyword, Symbol, Token};
 use s2_value::{Col, ColType, Memory, Name, Seq, Value};
 use std::alloc::Global;
@@ -112,7 +112,7 @@ fn builds_with_places(rt: HostRuntime) -> Result<(), Fail> {
     assert!(rt; written.nesting(rt.alloc())? <= 16);
     assert!(rt; written.comparisons() <= 64);
     let built = written.build(rt.alloc(), &cols)?;
-    assert!(rt; matches!(built, Pred::Not(_)));
+    assert!(rt; matches!(built.pred(), Pred::Not(_)));
     Ok(())
 }
 
@@ -120,7 +120,7 @@ fn builds_with_places(rt: HostRuntime) -> Result<(), Fail> {
 fn prints_a_negative_number(rt: HostRuntime) -> Result<(), Fail> {
     let cols = number_columns(rt.alloc())?;
     let mut printed = Seq::new(rt.alloc());
-    let shown = Pred::Cmp(1, Op::Le, Value::Int(-5));
+    let shown = Condition::new(rt.alloc(), Pred::Cmp(1, Op::Le, Value::Int(-5)))?;
     print_pred(rt.alloc(), &cols, &shown, &mut printed)?;
     assert_eq!(rt; printed.len(), 4);
     Ok(())

@@ -34,8 +34,8 @@ fn is_same(a: &[u8], b: &[u8]) -> bool
     a == b
 }
 
-/// The place of the first column of this name.
-pub(crate) fn place(cols: &[Col], name: &[u8]) -> Option<u8>
+/// The place of the first column of this name, from 0, or `None` where no column has it.
+pub fn place(cols: &[Col], name: &[u8]) -> Option<u8>
     requires { length cols.now ≤ 16 }
     ensures { result ≡ place_of cols.now name.now }
 {
@@ -49,7 +49,8 @@ pub(crate) fn place(cols: &[Col], name: &[u8]) -> Option<u8>
     None
 }
 
-fn number(negative: bool, size: u64) -> Option<i64>
+/// The number of this size, with a `-` before it where it is negative; `None` where it is outside 64 bits.
+pub fn number(negative: bool, size: u64) -> Option<i64>
     ensures { result ≡ number_of negative size }
 {
     if !negative {
@@ -69,8 +70,8 @@ fn number(negative: bool, size: u64) -> Option<i64>
     }
 }
 
-/// The value of a literal.
-pub(crate) fn value(alloc: Global, literal: &Literal) -> Result<Value, Unbuilt>
+/// The value of a literal. `Unresolved` comes exactly where it is none: a number outside 64 bits, more than 255 bytes of text, or a text that isn't UTF-8 or has a line feed.
+pub fn value(alloc: Global, literal: &Literal) -> Result<Value, Unbuilt>
     ensures ok { IfOk result (λ v. value_of literal.now ≡ Some v) }
     ensures unresolved { IsErrOf result Unbuilt.Unresolved → value_of literal.now ≡ None }
 {

@@ -2,12 +2,12 @@
 ghost use Rattle.std.specs.Prelude.{◌≡◌, ◌≤◌, None, Some, length, min, IfOk, IsErrOf};
 ghost use Rattle.s2_pred.specs.Postfix.{tests};
 ghost use Rattle.s2_pred.specs.Measures.{most, nesting, comparisons};
-ghost use Rattle.s2_pred.specs.Meaning.{meaning, bare};
+ghost use Rattle.s2_pred.specs.Meaning.{meaning};
 
 use crate::building::build;
 use crate::measures::{comparisons_of, height_of};
 use crate::{Join, Test, Unbuilt};
-use s2_model::Pred;
+use s2_model::Condition;
 use s2_value::{Col, Memory, Seq};
 use std::alloc::Global;
 use std::marker::Model;
@@ -61,11 +61,11 @@ impl Written {
     /// The predicate over these columns: names by their places, literals by their values, without parentheses.
     /// `Unresolved` comes exactly where a name is no column's or a literal is no value. A predicate within the limits
     /// on nesting and comparisons is asked for, since what is built is as deep as its tree.
-    pub fn build(&self, alloc: Global, cols: &[Col]) -> Result<Pred, Unbuilt>
+    pub fn build(&self, alloc: Global, cols: &[Col]) -> Result<Condition, Unbuilt>
         requires columns { length cols.now ≤ 16 }
         requires shallow { nesting self.now ≤ 16 }
         requires few { comparisons self.now ≤ 64 }
-        ensures built { IfOk result (λ pred. meaning cols.now self.now ≡ Some (bare pred)) }
+        ensures built { IfOk result (λ pred. meaning cols.now self.now ≡ Some pred) }
         ensures unresolved { IsErrOf result Unbuilt.Unresolved → meaning cols.now self.now ≡ None }
     {
         build(alloc, cols, self.joins.as_slice(), self.tests.as_slice())

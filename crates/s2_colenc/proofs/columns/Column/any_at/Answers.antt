@@ -2,7 +2,7 @@ use Rattle.std.proofs.Common.{◌≡◌, ℕ, ◌∙◌, sym, ap, get_or}
 use Rattle.std.proofs.lemmas.Result.{IfOk-weaker}
 use Rattle.s2_colenc.specs.Column.{values_of, entry_values, is_whole}
 use Rattle.s2_colenc.proofs.Runs.{of_runs}
-use Rattle.s2_colenc.proofs.columns.Column.at.Goals as goal
+use Rattle.s2_colenc.proofs.columns.Column.any_at.Goals as goal
 
 pub run_at-requires : goal.run_at-requires
 run_at-requires c = (of_runs c.args.self.now c.in-Runs.lens c.in-Runs.vals c.args.i (sym c.self.view_is ∙ c.in-Runs.is) (ap is_whole (sym c.self.view_is) ∙ c.self.invariant) c.requires).within

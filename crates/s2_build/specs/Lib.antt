@@ -1,0 +1,5 @@
+pub mod Each
+pub mod Statements
+pub mod Tables
+pub mod Drafts
+pub mod Builders

@@ -1,0 +1,9 @@
+pub mod Sorting
+pub mod FoundLemmas
+pub mod PlainLemmas
+pub mod Rulings
+pub mod Fitting
+pub mod Fits
+pub mod Runs
+pub mod Steps
+pub mod PlainLines

@@ -1,0 +1,4 @@
+pub mod Found
+pub mod Writes
+pub mod Plain
+pub mod Script

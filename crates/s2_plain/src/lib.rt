@@ -1,0 +1,12 @@
+//! The plain engine: runs statements of one session in their order over a plain table.
+#![tactic(auto)]
+
+mod answers;
+mod checks;
+mod drive;
+mod found;
+mod plain;
+mod writes;
+
+pub use checks::is_plain;
+pub use drive::{drive_call, plain_runs_are_right};

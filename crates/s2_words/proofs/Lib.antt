@@ -1,0 +1,3 @@
+mod Placeless
+mod Single
+mod OneFault
