@@ -1,8 +1,8 @@
 //! Worked histories: their placements entry by entry, and what their actors see.
 use crate::{answer, answer_of, pending, placement, state, view};
 use s2_model::{
-    Agg, Cell, CellTable, Change, ChangeList, Condition, Entry, EntryList, FlushNote, Items, MarkList,
-    MergeNote, Pred, Select, What,
+    Agg, Cell, CellTable, Change, ChangeList, Condition, Entry, EntryList, FlushNote, Items,
+    MarkList, MergeNote, Pred, Select, What,
 };
 use s2_value::{Col, ColList, ColType, Name, Row, Schema, Seq, Txt, Value, are_within_limits};
 use sqlite_items::Boxed;

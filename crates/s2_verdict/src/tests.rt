@@ -1,7 +1,8 @@
 //! Worked rows: each statement's reply and the entries that it makes.
 use crate::verdict;
 use s2_model::{
-    Condition, Entry, FlushNote, Items, Op, Pred, Refusal, Reply, RowList, Select, SetExpr, Stmt, What,
+    Condition, Entry, FlushNote, Items, Op, Pred, Refusal, Reply, RowList, Select, SetExpr, Stmt,
+    What,
 };
 use s2_value::{Col, ColList, ColType, KeyList, Name, Schema, Seq, Value, are_within_limits};
 use sqlite_items::Boxed;
