@@ -1,0 +1,154 @@
+-- Histories of the built kinds alone: nobody has a pin or a transaction, there is no segment, and each row has a living version.
+use Rattle.std.proofs.Common.{◌≡◌, ℕ, suc, ◌+◌, ◌≤◌, Bool, true, false, cond, List, [], ◌∷◌, ◌++◌, Option, Some, None, length, map, refl, sym, ap, ◌∙◌, subst, arith, zero-add, add-zero, inl, inr}
+use Rattle.std.specs.Prelude.{◌&&◌, ◌||◌, ◌==◌, not, is_some, if◌then◌else◌, ◌⊎◌, filter, reverse, nat_lt}
+use Rattle.std.specs.List.{list_all, list_any}
+use Rattle.std.proofs.lemmas.Bool.{false≢true, or_left, or_right}
+use Rattle.std.proofs.lemmas.List.{reverse-append}
+use Rattle.std.proofs.lemmas.List.Folds.{list_all-append}
+use Rattle.s2_value.specs.declared.schemas.Schema.{Schema}
+use Rattle.s2_model.specs.declared.entries.Change.{Change}
+use Rattle.s2_model.specs.declared.entries.Change.TheVariants.{Put, Drop}
+use Rattle.s2_model.specs.declared.entries.Entry.{Entry}
+use Rattle.s2_model.specs.declared.entries.What.{What}
+use Rattle.s2_model.specs.declared.entries.What.TheVariants.{Write, Commit}
+use Rattle.s2_model.specs.declared.scripts.Options.{Options}
+use Rattle.s2_model.specs.Table.{Table, RowOf, row_at, apply, number_of}
+use Rattle.s2_model.specs.History.{History, upto, running_after, is_running, pin_after, pin_of, pending, state, view, seen_at}
+use Rattle.s2_model.specs.Placement.{Placement, Segment, placement, place_after, lives, is_living, is_in_use, is_free}
+use Rattle.s2_model.specs.Fits.{AllFit, puts, is_in_store}
+use Rattle.s2_model.specs.Verdict.{moves, move_of, resting_places}
+use Rattle.s2_model.proofs.Lists.{counts_any}
+use Rattle.s2_model.proofs.Times.{count_now, count_versions, count_segments}
+use Rattle.s2_model.proofs.Invariant.{IsSound, size, now_from_numbers}
+use Rattle.s2_model.proofs.Whole.{sound}
+use Rattle.s2_legal.specs.Built.{is_built_what, are_built}
+use Rattle.s2_legal.specs.World.{is_put, is_left}
+use Rattle.s2_legal.proofs.Worlds.{left_row}
+
+pub parts : (a b : Bool) → (a && b) ≡ true → (a ≡ true) × (b ≡ true)
+parts true b e = (refl, e)
+parts false b e = absurd (false≢true e)
+
+pub joined : (a b : Bool) → a ≡ true → b ≡ true → (a && b) ≡ true
+joined true b p q = q
+joined false b p q = absurd (false≢true p)
+
+cond_one : {X : Type 0} (b : Bool) (x y z : X) → x ≡ z → y ≡ z → cond b x y ≡ z
+cond_one true x y z p q = p
+cond_one false x y z p q = q
+
+-- nobody has a pin
+pin_step : (w : What) (t : ℕ) (was : Option ℕ) → is_built_what w ≡ true → pin_after w t was ≡ was
+pin_step (Write cs) t was b = refl
+pin_step Commit t was b = refl
+pin_step _ t was b = absurd (false≢true b)
+
+pub pin_none : (H : History) (k : ℕ) → are_built H ≡ true → pin_of H k ≡ None
+pin_none [] k b = refl
+pin_none (e ∷ H) k b =
+    let both = parts (is_built_what e.what) (are_built H) b in
+    cond_one (k == e.actor) (pin_after e.what (length (e ∷ H)) (pin_of H k)) (pin_of H k) None
+    (pin_step e.what (length (e ∷ H)) (pin_of H k) both.0 ∙ pin_none H k both.1) (pin_none H k both.1)
+
+-- nobody is in a transaction
+run_step : (w : What) (was : Bool) → is_built_what w ≡ true → was ≡ false → running_after w was ≡ false
+run_step (Write cs) was b e = e
+run_step Commit was b e = refl
+run_step _ was b e = absurd (false≢true b)
+
+pub idle : (H : History) (k : ℕ) → are_built H ≡ true → is_running H k ≡ false
+idle [] k b = refl
+idle (e ∷ H) k b =
+    let both = parts (is_built_what e.what) (are_built H) b in
+    cond_one (k == e.actor) (running_after e.what (is_running H k)) (is_running H k) false
+    (run_step e.what (is_running H k) both.0 (idle H k both.1)) (idle H k both.1)
+
+-- there is no segment
+seg_step : (w : What) (t : ℕ) (rows : Table) (cs : List Change) (P : Placement) → is_built_what w ≡ true → (place_after w t rows cs P).segments ≡ P.segments
+seg_step (Write cs) t rows ds P b = refl
+seg_step Commit t rows ds P b = refl
+seg_step _ t rows ds P b = absurd (false≢true b)
+
+pub no_segments : (H : History) → are_built H ≡ true → (placement H).segments ≡ []
+no_segments [] b = refl
+no_segments (e ∷ H) b =
+    let both = parts (is_built_what e.what) (are_built H) b in
+    seg_step e.what (length (e ∷ H)) (state H) (pending H e.actor) (placement H) both.0 ∙ no_segments H both.1
+
+pub moves_none : (H : History) (rows : Table) → are_built H ≡ true → moves H rows ≡ []
+moves_none H [] b = refl
+moves_none H (p ∷ rows) b = ap (λ (s : List Segment). move_of (resting_places s (map (λ q. q.0) (p ∷ rows)))) (no_segments H b)
+
+-- earlier histories are of these kinds too
+upto_step : (r : ℕ) (e : Entry) (H : History) (b : Bool) → are_built (e ∷ H) ≡ true → are_built (upto r H) ≡ true → are_built (cond b (e ∷ H) (upto r H)) ≡ true
+upto_step r e H true whole ih = whole
+upto_step r e H false whole ih = ih
+
+pub built_upto : (r : ℕ) (H : History) → are_built H ≡ true → are_built (upto r H) ≡ true
+built_upto r [] b = refl
+built_upto r (e ∷ H) b = upto_step r e H (nat_lt (length H) r) b (built_upto r H (parts (is_built_what e.what) (are_built H) b).1)
+
+-- each row that there is lives
+size_some : (o : Option RowOf) → is_some o ≡ true → size o ≡ 1
+size_some (Some x) e = refl
+size_some None e = absurd (false≢true e)
+
+living : (schema : Schema) (options : Options) (H : History) (n : ℕ) → AllFit schema options H → are_built H ≡ true
+    → is_some (row_at (state H) n) ≡ true → lives (placement H).versions n ≡ true
+living schema options H n fit b there =
+    let count = now_from_numbers H (placement H) (sound schema options H fit).placed n ∙ size_some (row_at (state H) n) there in
+    let none : count_segments is_in_use is_free n (placement H).segments ≡ 0 = ap (λ (s : List Segment). count_segments is_in_use is_free n s) (no_segments H b) in
+    counts_any (λ v. v.id == n && is_living v) (placement H).versions (omega (arith, count, none))
+
+left_change : (t : Bool) (c rest : Bool) (was : Bool) → ((cond t c was || rest) ≡ true) → (was || ((t && c) || rest)) ≡ true
+left_change true true rest true e = refl
+left_change true true rest false e = refl
+left_change true false rest true e = refl
+left_change true false rest false e = e
+left_change false c rest true e = refl
+left_change false c rest false e = e
+
+puts_is : (c : Change) (n : ℕ) → puts c n ≡ (number_of c == n && is_put c)
+puts_is (Put m x) n = step (m == n) where
+  step : (b : Bool) → b ≡ (b && true)
+  step true = refl
+  step false = refl
+puts_is (Drop m) n = step (m == n) where
+  step : (b : Bool) → false ≡ (b && false)
+  step true = refl
+  step false = refl
+
+left_or : (cs : List Change) (n : ℕ) (was : Bool) → is_left cs n was ≡ true → (was || list_any (λ c. puts c n) cs) ≡ true
+left_or [] n was e = or_left was false e
+left_or (c ∷ cs) n was e =
+    let ih = left_or cs n (cond (number_of c == n) (is_put c) was) e in
+    subst (λ (b : Bool). (was || (b || list_any (λ c. puts c n) cs)) ≡ true) (sym (puts_is c n))
+    (left_change (number_of c == n) (is_put c) (list_any (λ c. puts c n) cs) was ih)
+
+or_weaker : (a a' b : Bool) → (a ≡ true → a' ≡ true) → (a || b) ≡ true → (a' || b) ≡ true
+or_weaker true a' b f e = or_left a' b (f refl)
+or_weaker false a' b f e = or_right a' b e
+
+pub view_is : (H : History) (k : ℕ) → are_built H ≡ true → view H k ≡ apply (state H) (pending H k)
+view_is H k b = ap (λ (p : Option ℕ). seen_at p H k) (pin_none H k b)
+
+-- what an actor sees is in the row store
+pub stored : (schema : Schema) (options : Options) (H : History) (k n : ℕ) → AllFit schema options H → are_built H ≡ true
+    → is_some (row_at (view H k) n) ≡ true → is_in_store H k n ≡ true
+stored schema options H k n fit b sees =
+    let seen : is_some (row_at (apply (state H) (pending H k)) n) ≡ true = subst (λ (t : Table). is_some (row_at t n) ≡ true) (view_is H k b) sees in
+    let left : is_left (pending H k) n (is_some (row_at (state H) n)) ≡ true = sym (left_row (state H) (pending H k) n) ∙ seen in
+    or_weaker (is_some (row_at (state H) n)) (lives (placement H).versions n) (list_any (λ c. puts c n) (pending H k))
+    (living schema options H n fit b) (left_or (pending H k) n (is_some (row_at (state H) n)) left)
+
+-- of entries in the order in which they are written
+snoc_built : (xs : List Entry) (e : Entry) → are_built (xs ++ e ∷ []) ≡ (are_built xs && (is_built_what e.what && true))
+snoc_built xs e = list_all-append (λ (x : Entry). is_built_what x.what) xs (e ∷ [])
+
+-- in the order in which they are written, or with the newest first
+pub built_history : (xs : List Entry) → are_built xs ≡ true → are_built (reverse xs) ≡ true
+built_history [] b = refl
+built_history (x ∷ xs) b =
+    let both = parts (is_built_what x.what) (are_built xs) b in
+    ap (λ (es : List Entry). are_built es) (reverse-append (x ∷ []) xs) ∙ snoc_built (reverse xs) x
+    ∙ joined (are_built (reverse xs)) (is_built_what x.what && true) (built_history xs both.1) (joined (is_built_what x.what) true both.0 refl)

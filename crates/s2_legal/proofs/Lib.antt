@@ -1,0 +1,10 @@
+pub mod Answering
+pub mod BuiltHistories
+pub mod Fitting
+pub mod MapRows
+pub mod Outcomes
+pub mod Rulings
+pub mod Standing
+pub mod Walks
+pub mod Wholes
+pub mod Worlds
