@@ -5,8 +5,8 @@ use Rattle.s2_judge.specs.declared.known.Table.{Table}
 use Rattle.s2_judge.specs.declared.kinds.Kind.TheVariants as fault
 use Rattle.s2_judge.specs.Kinds.{Line, no_lines}
 use Rattle.s2_script.specs.Lines.{lines_of, without_return}
-use Rattle.s2_script.specs.Script.{Outcome, Judged, Ends, Runs, with_line}
-use Rattle.s2_script.specs.Steps.{at_first, Steps, IsStep, Stops, IsBad}
+use Rattle.s2_script.specs.Script.{Outcome, Judged, Ends, Runs, with_line, IsBad}
+use Rattle.s2_script.specs.Steps.{at_first, Steps, IsStep, Stops}
 use Rattle.s2_script.specs.declared.verdicts.Verdict.{Verdict}
 use Rattle.s2_script.specs.declared.verdicts.Verdict.TheVariants as verdict
 use Rattle.s2_script.specs.declared.stops.Stop.{Stop}

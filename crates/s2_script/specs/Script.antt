@@ -12,6 +12,8 @@ use Rattle.s2_judge.specs.Kinds.{Line, fault_of, known_after, no_lines}
 use Rattle.s2_script.specs.Lines.{is_empty, lines_of, without_return}
 use Rattle.s2_script.specs.declared.verdicts.Verdict.{Verdict}
 use Rattle.s2_script.specs.declared.verdicts.Verdict.TheVariants as verdict
+use Rattle.s2_script.specs.declared.stops.Stop.{Stop}
+use Rattle.s2_script.specs.declared.stops.Stop.TheVariants as stop
 
 -- the first fault of a line that isn't empty
 abbrev pub IsFault : Known → List ℕ → Kind → Type 0
@@ -66,3 +68,8 @@ ReadBy false bytes result = Runs 1 no_lines (lines_of bytes) result
 -- a script has at most 16,777,216 bytes
 abbrev pub Reads : List ℕ → Outcome → Type 0
 Reads bytes result = ReadBy (nat_lt 16777216 (length bytes)) bytes result
+
+-- a stop for a fault is what is read
+abbrev pub IsBad : (Outcome → Type 0) → Stop → Type 0
+IsBad reads (stop.Bad n kind) = reads (Err (n, kind))
+IsBad reads stop.Memory = Unit {0}

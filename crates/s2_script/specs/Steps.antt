@@ -29,8 +29,3 @@ IsStep before line after = (v : Verdict) × Judged before.known (without_return 
 abbrev pub Stops : Lines → List ℕ → Stop → Type 0
 Stops before line (stop.Bad n kind) = (n ≡ before.next) × Judged before.known (without_return line) (verdict.Faulty kind)
 Stops before line stop.Memory = Unit {0}
-
--- a stop for a fault is what is read
-abbrev pub IsBad : (Outcome → Type 0) → Stop → Type 0
-IsBad reads (stop.Bad n kind) = reads (Err (n, kind))
-IsBad reads stop.Memory = Unit {0}

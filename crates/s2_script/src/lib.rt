@@ -10,6 +10,7 @@ mod stops;
 mod tests;
 mod verdicts;
 
+pub use bytes::{cut, without_return};
 pub use judging::judge;
 pub use laws::one_outcome;
 pub use reading::{Lines, read_lines};

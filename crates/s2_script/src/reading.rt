@@ -4,8 +4,8 @@ ghost use Rattle.s2_judge.specs.Kinds.{no_lines};
 ghost use Rattle.s2_judge.specs.declared.kinds.Kind.TheVariants.{Misplaced};
 ghost use Rattle.s2_script.specs.declared.stops.Stop.TheVariants.{Bad};
 ghost use Rattle.s2_script.specs.Lines.{lines_of};
-ghost use Rattle.s2_script.specs.Script.{Runs, Reads};
-ghost use Rattle.s2_script.specs.Steps.{at_first, kept, IsStep, Stops, IsBad};
+ghost use Rattle.s2_script.specs.Script.{Runs, Reads, IsBad};
+ghost use Rattle.s2_script.specs.Steps.{at_first, kept, IsStep, Stops};
 
 use crate::bytes::{cut, without_return};
 use crate::judging::judge;
@@ -24,7 +24,7 @@ pub struct Lines {
     /// Those that aren't empty.
     pub lines: Seq<Raw>,
     /// The number of the line after them.
-    pub next: u64,
+    pub(crate) next: u64,
 }
 
 impl Lines {

@@ -1,9 +1,7 @@
 -- What the kinds of error of the parse say of the words.
-use Rattle.std.proofs.Common.{◌≡◌, ◌≢◌, ◌∙◌, ◌⊎◌, ◌||◌, Bool, ap, sym, subst, refl, List, ℕ, [], ◌∷◌, true, false, not, inl, inr, Result, Ok, Err}
-use Rattle.clap.specs.Words.{App, HasKind, IsAmong, Kinds, fault_of, is_simple, is_simple_and_free, kind_of}
+use Rattle.std.proofs.Common.{◌≡◌, ◌∙◌, ap, sym, subst, refl, List, ℕ, [], ◌∷◌, true, inl, inr, Result, Ok, Err}
+use Rattle.clap.specs.Words.{App, HasKind, IsAmong, fault_of, is_simple, is_simple_and_free, kind_of}
 use Rattle.clap.specs.declared.error.Error.{Error}
-use Rattle.clap.specs.declared.error.kind.ErrorKind.{ErrorKind}
-use Rattle.clap.specs.declared.error.kind.ErrorKind.TheVariants as kind
 use Rattle.s2_words.specs.declared.modes.Asked.{Asked}
 use Rattle.s2_words.specs.declared.modes.Asked.TheVariants.{Run, Help}
 use Rattle.s2_words.specs.declared.modes.WordsFault.{WordsFault}

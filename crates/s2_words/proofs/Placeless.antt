@@ -1,6 +1,6 @@
 -- Where the names of an option's values lie in memory decides nothing of a parse.
-use Rattle.std.proofs.Common.{◌≡◌, ◌∙◌, ◌&&◌, ◌||◌, ◌==◌, ◌+◌, ap, ap₂, sym, refl, ℕ, zero, suc, Bool, true, false, not, cond, List, [], ◌∷◌, ◌++◌, map, length, drop, min, Option, Some, None, is_some, codes, pos}
-use Rattle.std.specs.Prelude.{if◌then◌else◌, nat_lt, encode_utf8, slice_get, option_map, find, fold, unwrap_or}
+use Rattle.std.proofs.Common.{◌≡◌, ◌∙◌, ◌&&◌, ◌||◌, ◌==◌, ◌+◌, ap, ap₂, sym, refl, ℕ, zero, suc, Bool, not, List, [], ◌∷◌, map, length, drop, min, Option, Some, None, is_some}
+use Rattle.std.specs.Prelude.{if◌then◌else◌, encode_utf8, slice_get, option_map, fold}
 use Rattle.std.specs.List.{list_any}
 use Rattle.std.specs.Option.{option_map_or}
 use Rattle.std.specs.Str.{bytes_eq, chars}
@@ -10,7 +10,7 @@ use Rattle.clap.specs.Matches.{count_text}
 use Rattle.clap.specs.Facts.{explicit_source, parser_of_value, unwrap_or_range}
 use Rattle.clap.specs.Values.{reading_of, refused_kind, same_text}
 use Rattle.clap.specs.ValueTests.{accepts}
-use Rattle.clap.specs.Walk.{Held, Names as Subcommands, Outcome, Row, Rule, Step, Text, Waiting, Walk, action_of, after_flag, after_step, arg_by_id, arg_by_index, arg_by_long, arg_by_short, attached_value, bundle, bundle_met, bundle_step, count_of, done, waits, plain, refused, finished, flag_met, has_row, default_rows, idle, option, positional, next, trailing, subcommand, value, is_multiple, is_pending, long_met, long_or_other, long_word, most_values, nothing_held, option_met, option_word, plain_word, positional_held, pushed, reacted, reading_by, settled, settled_rows, short_met, short_or_plain, short_word, subcommand_met, subcommand_or_other, takes_several, takes_values, to_positional, used, used_as, used_by_id, walk, walk_from, walked, walked_from, with_default, word_met, next_position, values_or_missing}
+use Rattle.clap.specs.Walk.{Held, Names as Subcommands, Outcome, Row, Rule, Step, Text, Waiting, Walk, action_of, after_flag, after_step, arg_by_id, arg_by_index, arg_by_long, arg_by_short, attached_value, bundle, bundle_met, bundle_step, count_of, done, waits, plain, refused, finished, flag_met, has_row, default_rows, idle, option, positional, next, trailing, subcommand, value, is_pending, long_met, long_or_other, long_word, most_values, nothing_held, option_met, option_word, plain_word, positional_held, pushed, reacted, reading_by, settled, settled_rows, short_met, short_or_plain, short_word, subcommand_met, subcommand_or_other, takes_several, takes_values, to_positional, used, used_as, used_by_id, walk, walk_from, walked, walked_from, with_default, word_met}
 use Rattle.clap.specs.Simple.{App, Shape, built, entered, matches_of}
 use Rattle.clap.specs.Takes.{is_given}
 use Rattle.clap.specs.Kinds.{Kinds, check_kinds, or_else, range_kinds, request_kinds, value_kinds, values_kinds}

@@ -81,8 +81,8 @@ fn help_teaches(rt: HostRuntime) -> Result<(), Fail> {
         "--mode",
         "--number",
         "--size",
-        "drive runs",
-        "check reads",
+        "drive  runs",
+        "check  reads",
         "Example",
     ] {
         assert!(rt; text.as_str().contains(part), "it says {part}");

@@ -1,8 +1,8 @@
-use Rattle.std.proofs.Common.{◌≡◌, ◌∙◌, ap, sym, List, ℕ, [], ◌∷◌, map, codes, true, false, Option, refl}
+use Rattle.std.proofs.Common.{◌∙◌, ap, sym, List, ℕ, map, codes}
 use Rattle.std.specs.String.{string_bytes}
-use Rattle.clap.specs.Words.{App, Kinds, FailsBy, fault_of, first_of, is_simple_and_free, is_simple, matches_of, app_of, found_of}
+use Rattle.clap.specs.Words.{App, fault_of, first_of, is_simple_and_free, is_simple, matches_of, found_of}
 use Rattle.clap.proofs.WalkLemmas.{first_value-rows}
-use Rattle.s2_words.specs.Words.{AreModes, Names, command, mode_named}
+use Rattle.s2_words.specs.Words.{AreModes, Names, mode_named}
 use Rattle.s2_words.proofs.OneFault.{simple, simple_free, help_or_usage}
 use Rattle.s2_words.proofs.Placeless.{one_fault_list, one_row_list}
 use Rattle.s2_words.proofs.parse.words.Goals as goal

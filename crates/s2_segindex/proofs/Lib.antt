@@ -1,0 +1,9 @@
+pub mod Steps
+pub mod Results
+pub mod InPlace
+pub mod ReadSpelled
+pub mod Spelled
+pub mod Stands
+pub mod Found
+pub mod Grouped
+pub mod Made

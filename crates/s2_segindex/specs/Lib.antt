@@ -1,0 +1,5 @@
+pub mod Reading
+pub mod Groups
+pub mod Blocks
+pub mod Places
+pub mod Spells
