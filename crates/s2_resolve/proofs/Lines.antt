@@ -54,7 +54,7 @@ pub record Sound (known : Known) (r : Line) : Type 0 where
   pub type' : is_wrong_type known r ≡ false
   pub built : is_not_built r ≡ false
 
-sound : (known : Known) (r : Line) → fault_of known r ≡ None → Sound known r
+pub sound : (known : Known) (r : Line) → fault_of known r ≡ None → Sound known r
 sound known r h =
     let asked : List (Bool × Kind) = (is_literal_range r, fault.LiteralRange)
     ∷ (is_literal_long r, fault.LiteralLong)
