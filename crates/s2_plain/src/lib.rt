@@ -6,7 +6,10 @@ mod checks;
 mod drive;
 mod found;
 mod plain;
+#[cfg(test)]
+mod tests;
 mod writes;
 
+pub use answers::answer;
 pub use checks::is_plain;
 pub use drive::{drive_call, plain_runs_are_right};
