@@ -1,0 +1,10 @@
+pub mod Tools
+pub mod RunLaws
+pub mod TextLaws
+pub mod Numbers
+pub mod TokenLaws
+pub mod ListLaws
+pub mod ValueLaws
+pub mod LineLaws
+pub mod OutputLaws
+pub mod SessionLaws
