@@ -1,6 +1,6 @@
 -- The entries with which a reply is right.
-use Rattle.std.proofs.Common.{◌≡◌, ℕ, suc, ◌+◌, ◌≤◌, Bool, true, false, cond, List, [], ◌∷◌, ◌++◌, Option, Some, None, length, refl, sym, ap, ◌∙◌, subst, arith, add-zero, inl, inr}
-use Rattle.std.specs.Prelude.{◌&&◌, ◌||◌, ◌⊎◌, MatchOption, map, filter, if◌then◌else◌}
+use Rattle.std.proofs.Common.{◌≡◌, ℕ, ◌+◌, ◌≤◌, Bool, true, false, cond, List, [], ◌∷◌, Option, Some, None, length, refl, sym, ap, ◌∙◌, subst, add-zero, inl, inr}
+use Rattle.std.specs.Prelude.{◌&&◌, ◌||◌, ◌⊎◌, MatchOption, map, filter}
 use Rattle.std.specs.List.{list_any}
 use Rattle.std.proofs.lemmas.Bool.{false≢true, true≢false}
 use Rattle.s2_value.specs.declared.schemas.Schema.{Schema}
@@ -18,7 +18,7 @@ use Rattle.s2_model.specs.History.{History, upto, own, pin_of, extended}
 use Rattle.s2_model.specs.Placement.{Segment, placement, contains_number}
 use Rattle.s2_model.specs.Needed.{FaultsBy, NamesMissing, needed, is_missing, needs_for_predicate, needs_for_values, counts_as_evicted}
 use Rattle.s2_model.specs.Verdict.{Ruled, verdict}
-use Rattle.s2_model.specs.Legal.{has_verdict, is_end, pin_for, Answers, Answered, ByVerdict, ForMemory, ByWork, ByFault, Meets, Walk, first_move}
+use Rattle.s2_model.specs.Legal.{has_verdict, is_end, pin_for, Answers, Answered, Meets, Walk, first_move}
 use Rattle.s2_legal.specs.Built.{is_built_stmt, are_built}
 use Rattle.s2_legal.specs.World.{committed, ruled, is_ruled, is_memory, is_memory_refusal, IsMade, IsEnd, IsNext, IsStand}
 use Rattle.s2_legal.proofs.BuiltHistories.{built_upto, pin_none, no_segments}
@@ -120,7 +120,6 @@ no_move (c ∷ cs) = refl
 
 module _ (schema : Schema) (H : History) (k r : ℕ) (stmt : Stmt) (reply V : Reply) (cs : List Change)
     (told : verdict schema (upto r H) k stmt ≡ ruled V cs) (built : is_built_stmt stmt ≡ true) (kind : is_ruled V ≡ true) where
-
   only : V ≡ reply → (es : List What) → IsMade schema H k r stmt reply es → es ≡ committed cs
   only same es made = go made.answer where
     go : Answers schema (upto r H) k stmt reply es → es ≡ committed cs

@@ -1,7 +1,7 @@
 -- Histories of the built kinds alone: nobody has a pin or a transaction, there is no segment, and each row has a living version.
-use Rattle.std.proofs.Common.{◌≡◌, ℕ, suc, ◌+◌, ◌≤◌, Bool, true, false, cond, List, [], ◌∷◌, ◌++◌, Option, Some, None, length, map, refl, sym, ap, ◌∙◌, subst, arith, zero-add, add-zero, inl, inr}
-use Rattle.std.specs.Prelude.{◌&&◌, ◌||◌, ◌==◌, not, is_some, if◌then◌else◌, ◌⊎◌, filter, reverse, nat_lt}
-use Rattle.std.specs.List.{list_all, list_any}
+use Rattle.std.proofs.Common.{◌≡◌, ℕ, Bool, true, false, cond, List, [], ◌∷◌, ◌++◌, Option, Some, None, length, map, refl, sym, ap, ◌∙◌, subst, arith}
+use Rattle.std.specs.Prelude.{◌&&◌, ◌||◌, ◌==◌, is_some, reverse, nat_lt}
+use Rattle.std.specs.List.{list_any}
 use Rattle.std.proofs.lemmas.Bool.{false≢true, or_left, or_right}
 use Rattle.std.proofs.lemmas.List.{reverse-append}
 use Rattle.std.proofs.lemmas.List.Folds.{list_all-append}
@@ -18,8 +18,8 @@ use Rattle.s2_model.specs.Placement.{Placement, Segment, placement, place_after,
 use Rattle.s2_model.specs.Fits.{AllFit, puts, is_in_store}
 use Rattle.s2_model.specs.Verdict.{moves, move_of, resting_places}
 use Rattle.s2_model.proofs.Lists.{counts_any}
-use Rattle.s2_model.proofs.Times.{count_now, count_versions, count_segments}
-use Rattle.s2_model.proofs.Invariant.{IsSound, size, now_from_numbers}
+use Rattle.s2_model.proofs.Times.{count_segments}
+use Rattle.s2_model.proofs.Invariant.{size, now_from_numbers}
 use Rattle.s2_model.proofs.Whole.{sound}
 use Rattle.s2_legal.specs.Built.{is_built_what, are_built}
 use Rattle.s2_legal.specs.World.{is_put, is_left}

@@ -1,8 +1,7 @@
 -- When an entry of the built kinds fits.
-use Rattle.std.proofs.Common.{◌≡◌, ℕ, suc, ◌+◌, ◌<◌, Bool, true, false, cond, List, [], ◌∷◌, ◌++◌, Option, Some, None, length, map, filter, take, drop, get_or, reverse, refl, sym, ap, ◌∙◌, subst, arith, inl, inr}
-use Rattle.std.specs.Prelude.{◌&&◌, ◌||◌, ◌==◌, ◌⊎◌, not, is_some, nat_lt, nat_le}
+use Rattle.std.proofs.Common.{◌≡◌, ℕ, suc, ◌+◌, ◌<◌, Bool, true, false, cond, List, [], ◌∷◌, ◌++◌, Option, Some, length, filter, take, drop, get_or, reverse, refl, sym, ap, ◌∙◌, subst, arith, inl}
+use Rattle.std.specs.Prelude.{◌&&◌, ◌||◌, ◌==◌, not, is_some, nat_lt, nat_le}
 use Rattle.std.specs.List.{find, list_all, list_any}
-use Rattle.std.proofs.lemmas.Bool.{false≢true, or_right}
 use Rattle.std.proofs.lemmas.Bool.Decides.{nat_tests}
 use Rattle.std.proofs.lemmas.List.{reverse-append, take-append-drop}
 use Rattle.s2_slow.proofs.SlowHistories.{history_more}
@@ -10,14 +9,14 @@ use Rattle.s2_value.specs.declared.schemas.Schema.{Schema}
 use Rattle.s2_model.specs.declared.entries.Change.{Change}
 use Rattle.s2_model.specs.declared.entries.Entry.{Entry}
 use Rattle.s2_model.specs.declared.scripts.Options.{Options}
-use Rattle.s2_model.specs.Table.{Table, row_at, touches, number_of}
-use Rattle.s2_model.specs.History.{History, ◌▷◌, history, is_session, is_running, pin_of, next, view}
+use Rattle.s2_model.specs.Table.{Table, row_at, number_of}
+use Rattle.s2_model.specs.History.{History, ◌▷◌, history, is_session, is_running, next, view}
 use Rattle.s2_model.specs.Held.{sessions, holds, is_held_by_other}
-use Rattle.s2_model.specs.Fits.{WriteFits, Fits, AllFit, rise, put_fits, put_on_from, is_writable, is_unpinned_session, is_in_store, follows_write}
+use Rattle.s2_model.specs.Fits.{WriteFits, AllFit, put_on_from, is_writable, is_unpinned_session, is_in_store, follows_write}
 use Rattle.s2_model.specs.Verdict.{other_holder}
 use Rattle.s2_legal.specs.Built.{are_built}
 use Rattle.s2_legal.specs.Faults.{IsFirstUnfit}
-use Rattle.s2_legal.specs.World.{IsWorld, view_in, holder_in, sees_in, is_writable_in, write_fits_in}
+use Rattle.s2_legal.specs.World.{IsWorld, sees_in, is_writable_in, write_fits_in}
 use Rattle.s2_legal.proofs.BuiltHistories.{parts, joined, pin_none, idle, stored}
 use Rattle.s2_legal.proofs.Rulings.{holder_same, view_same}
 
@@ -58,7 +57,7 @@ old_same : (schema : Schema) (options : Options) (rows : Table) (ws : List (List
 old_same schema options rows ws last H k cs small world b fit =
     all_same_by (λ c. not (nat_lt (number_of c) (next H)) || is_writable H k (number_of c)) (λ c. nat_lt last (number_of c) || is_writable_in rows ws k (number_of c))
     (λ c. ap (λ t. t || is_writable H k (number_of c)) (old_test last (number_of c) _ world.number)
-        ∙ ap (λ t. nat_lt last (number_of c) || t) (writable_same schema options rows ws last H k (number_of c) small world b fit)) cs
+    ∙ ap (λ t. nat_lt last (number_of c) || t) (writable_same schema options rows ws last H k (number_of c) small world b fit)) cs
 
 new_same : (rows : Table) (ws : List (List Change)) (last : ℕ) (H : History) (cs : List Change) → IsWorld rows ws last H
     → put_on_from (next H) (filter (λ c. nat_le (next H) (number_of c)) cs) ≡ put_on_from (suc last) (filter (λ c. nat_le (suc last) (number_of c)) cs)

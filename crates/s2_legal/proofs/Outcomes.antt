@@ -1,6 +1,6 @@
 -- Legal outcomes are those without a fault.
-use Rattle.std.proofs.Common.{◌≡◌, ℕ, zero, suc, ◌+◌, ◌<◌, ◌≤◌, Bool, true, false, cond, List, [], ◌∷◌, ◌++◌, Option, Some, None, length, map, filter, refl, sym, ap, ◌∙◌, subst, arith, inl, inr}
-use Rattle.std.specs.Prelude.{◌&&◌, ◌||◌, ◌==◌, ◌⊎◌, nat_lt, nat_eq, if◌then◌else◌}
+use Rattle.std.proofs.Common.{◌≡◌, ℕ, zero, suc, ◌<◌, ◌≤◌, Bool, true, false, cond, List, [], ◌∷◌, Option, Some, None, length, map, filter, refl, sym, ap, ◌∙◌, subst, arith, inl, inr}
+use Rattle.std.specs.Prelude.{◌&&◌, ◌||◌, ◌==◌, nat_lt}
 use Rattle.std.specs.List.{list_any, list_all, AllByRecursion}
 use Rattle.std.proofs.lemmas.Bool.{false≢true, true≢false, eqb-true, eq-eqb, ne_eqb, ltb-true, ltb-false, lt-ltb}
 use Rattle.s2_value.specs.declared.schemas.Schema.{Schema}
@@ -15,11 +15,10 @@ use Rattle.s2_model.specs.declared.statements.Stmt.{Stmt}
 use Rattle.s2_model.specs.History.{History, ◌▷◌, history, own, is_session}
 use Rattle.s2_model.specs.Held.{sessions}
 use Rattle.s2_model.specs.Fits.{AllFit, rise_from}
-use Rattle.s2_model.specs.Legal.{Legal, Walk, start, walked, Meets, Replies, IsTranscript, IsTranscriptOf, stmts_of, is_of_session, sessions_in, marks_of}
+use Rattle.s2_model.specs.Legal.{Legal, Walk, start, walked, Replies, IsTranscript, IsTranscriptOf, stmts_of, is_of_session, sessions_in, marks_of}
 use Rattle.s2_model.proofs.Holders.{some_session}
-use Rattle.s2_legal.specs.declared.answers.LegalAnswer.{LegalAnswer}
 use Rattle.s2_legal.specs.declared.answers.LegalAnswer.TheVariants as answer
-use Rattle.s2_legal.specs.Faults.{IsWhole, IsFirstUnfit, AreRight, transcript_of, IsRightTo, IsRight, IsReplyFault, Judged, JudgedOnce, IsFaultOf}
+use Rattle.s2_legal.specs.Faults.{IsWhole, IsFirstUnfit, AreRight, transcript_of, IsRightTo, IsRight, IsReplyFault, JudgedOnce, IsFaultOf}
 use Rattle.s2_legal.specs.Sessions.{IsFirstWrong}
 use Rattle.s2_legal.proofs.BuiltHistories.{parts}
 
@@ -111,9 +110,10 @@ past t rest (x ∷ ts) above found =
 found_all : (m : ℕ) (ts : List Transcript) → rise_from m (map session_of ts) ≡ true → AllByRecursion (λ x. transcript_of x.session ts ≡ x) ts
 found_all m [] up = tt
 found_all m (t ∷ ts) up =
-    let both = parts (nat_lt m t.session) (rise_from t.session (map session_of ts)) up in
-    (ap (λ b. cond b t (transcript_of t.session ts)) (eq-eqb t.session t.session refl),
-        past t ts ts (above_all t.session ts both.1) (found_all t.session ts both.1))
+    let both = parts (nat_lt m t.session) (rise_from t.session (map session_of ts)) up in (
+      ap (λ b. cond b t (transcript_of t.session ts)) (eq-eqb t.session t.session refl),
+      past t ts ts (above_all t.session ts both.1) (found_all t.session ts both.1),
+    )
 
 -- they are those of sessions
 all_sessions : list_all is_session sessions ≡ true
@@ -164,8 +164,8 @@ no_line script outcome k whole session none = go (list_any (is_of_session k) scr
   go true e =
       let has : (list_any (is_of_session k) script.lines && (k == k)) ≡ true = ap (λ b. b && (k == k)) e ∙ eq-eqb k k refl in
       let among : list_any (λ j. j == k) (sessions_in script.lines) ≡ true =
-          sym (any_filter (λ j. j == k) (λ j. list_any (is_of_session j) script.lines) sessions)
-          ∙ some_session (λ j. list_any (is_of_session j) script.lines && (j == k)) k session has in
+      sym (any_filter (λ j. j == k) (λ j. list_any (is_of_session j) script.lines) sessions)
+      ∙ some_session (λ j. list_any (is_of_session j) script.lines && (j == k)) k session has in
       let told : list_any (λ j. j == k) (map session_of outcome.transcripts) ≡ true = ap (λ (js : List ℕ). list_any (λ j. j == k) js) whole.sessions_are ∙ among in
       sym (sym (any_map k outcome.transcripts) ∙ told) ∙ none
 
@@ -235,9 +235,9 @@ pub legal_from : (script : Script) (outcome : Outcome) → IsWhole script outcom
     → ((k : ℕ) → is_session k ≡ true → IsRight script outcome k) → Legal script outcome
 legal_from script outcome whole fit right =
     let rises : rise_from 0 (map session_of outcome.transcripts) ≡ true =
-        subst (λ (js : List ℕ). rise_from 0 js ≡ true) (sym whole.sessions_are) (rise_filter 0 (λ k. list_any (is_of_session k) script.lines) sessions all_rise) in
+    subst (λ (js : List ℕ). rise_from 0 js ≡ true) (sym whole.sessions_are) (rise_filter 0 (λ k. list_any (is_of_session k) script.lines) sessions all_rise) in
     let those : list_all is_session (map session_of outcome.transcripts) ≡ true =
-        subst (λ (js : List ℕ). list_all is_session js ≡ true) (sym whole.sessions_are) (all_filter is_session (λ k. list_any (is_of_session k) script.lines) sessions all_sessions) in
+    subst (λ (js : List ℕ). list_all is_session js ≡ true) (sym whole.sessions_are) (all_filter is_session (λ k. list_any (is_of_session k) script.lines) sessions all_sessions) in
     record {
       fits = fit;
       sessions_are = whole.sessions_are;
@@ -327,5 +327,5 @@ fault_told script outcome k t h ls ds o at_h at_ls at_ds is told =
     let marks = marks_of script.lines outcome.transcripts in
     fault_is script outcome k t o is
     (subst (λ (x : List Entry). IsFirstWrong script.schema script.options marks (history x) k t.faults (stmts_of k script.lines) t.said o) at_h
-        (subst (λ (x : List Line). IsFirstWrong script.schema script.options marks (history h) k t.faults (stmts_of k x) t.said o) at_ls
-            (subst (λ (x : List Said). IsFirstWrong script.schema script.options marks (history h) k t.faults (stmts_of k ls) x o) at_ds told)))
+    (subst (λ (x : List Line). IsFirstWrong script.schema script.options marks (history h) k t.faults (stmts_of k x) t.said o) at_ls
+    (subst (λ (x : List Said). IsFirstWrong script.schema script.options marks (history h) k t.faults (stmts_of k ls) x o) at_ds told)))

@@ -1,9 +1,9 @@
 -- The verdict on a statement of the built kinds.
-use Rattle.std.proofs.Common.{◌≡◌, ℕ, suc, ◌<◌, Bool, true, false, cond, List, [], ◌∷◌, Option, Some, None, length, refl, sym, ap, ◌∙◌, arith}
+use Rattle.std.proofs.Common.{◌≡◌, ℕ, suc, ◌<◌, Bool, true, false, cond, List, [], ◌∷◌, Option, Some, None, length, refl, sym, ap, ◌∙◌}
 use Rattle.std.specs.Prelude.{◌&&◌, ◌==◌, not, is_some, if◌then◌else◌, nat_lt}
 use Rattle.std.specs.List.{find, list_all}
 use Rattle.std.specs.Option.{option_map, option_or}
-use Rattle.std.proofs.lemmas.Bool.{false≢true, lt-ltb, le-ltb, ltb-true}
+use Rattle.std.proofs.lemmas.Bool.{false≢true, lt-ltb, ltb-true}
 use Rattle.s2_value.specs.declared.schemas.Schema.{Schema}
 use Rattle.s2_model.specs.declared.entries.Change.{Change}
 use Rattle.s2_model.specs.declared.entries.What.{What}
@@ -15,12 +15,12 @@ use Rattle.s2_model.specs.declared.statements.Select.{Select}
 use Rattle.s2_model.specs.declared.statements.Stmt.{Stmt}
 use Rattle.s2_model.specs.declared.statements.Stmt.TheVariants as stmt
 use Rattle.s2_model.specs.Table.{Table, apply, touches}
-use Rattle.s2_model.specs.History.{History, is_running, pin_of, next, state, pending, view}
+use Rattle.s2_model.specs.History.{History, is_running, next, pending, view}
 use Rattle.s2_model.specs.Held.{sessions, holds}
 use Rattle.s2_model.specs.Answer.{answer}
-use Rattle.s2_model.specs.Verdict.{Ruled, changes, matched, refusal_of, moves, write_or, write_verdict, verdict, refused, says, too_many, locked, other_holder, out_of_range, locked_value, duplicate, first_some, last_length}
+use Rattle.s2_model.specs.Verdict.{Ruled, changes, matched, refusal_of, moves, write_or, write_verdict, verdict, refused, says, too_many, locked, other_holder, out_of_range, locked_value, duplicate, last_length}
 use Rattle.s2_legal.specs.Built.{is_built_stmt, are_built}
-use Rattle.s2_legal.specs.World.{IsWorld, open_of, view_in, holder_in, locked_in, changes_from, refusal_in, write_in, room_in, ruled, committed}
+use Rattle.s2_legal.specs.World.{IsWorld, open_of, view_in, holder_in, locked_in, changes_from, refusal_in, write_in, room_in, ruled}
 use Rattle.s2_legal.proofs.BuiltHistories.{pin_none, idle, moves_none, view_is, parts}
 
 -- a search among numbers below 256

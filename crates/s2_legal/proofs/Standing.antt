@@ -1,12 +1,11 @@
 -- Entries after the first r, and entries of an actor between two places.
-use Rattle.std.proofs.Common.{◌≡◌, ℕ, suc, ◌+◌, ◌-◌, ◌<◌, ◌≤◌, Bool, true, false, cond, List, [], ◌∷◌, ◌++◌, Some, None, length, take, drop, filter, get_or, reverse, refl, sym, ap, ◌∙◌, subst, arith, length-append, length-take-le}
+use Rattle.std.proofs.Common.{◌≡◌, ℕ, ◌+◌, ◌-◌, ◌<◌, ◌≤◌, Bool, true, false, cond, List, [], ◌∷◌, ◌++◌, Some, length, take, drop, get_or, reverse, refl, sym, ap, ◌∙◌, subst, arith, length-append, length-take-le}
 use Rattle.std.specs.Prelude.{◌==◌, nat_lt}
 use Rattle.std.proofs.lemmas.Bool.{eq-eqb}
 use Rattle.std.proofs.lemmas.List.{reverse-append, take-append-drop, take-take, take_all}
 use Rattle.std.proofs.lemmas.List.Elements.{filter-append}
 use Rattle.s2_model.specs.declared.entries.Change.{Change}
 use Rattle.s2_model.specs.declared.entries.Entry.{Entry}
-use Rattle.s2_model.specs.declared.entries.What.{What}
 use Rattle.s2_model.specs.declared.entries.What.TheVariants.{Write, Commit}
 use Rattle.s2_model.specs.History.{History, ◌▷◌, history, upto, own, extended}
 use Rattle.s2_slow.proofs.SlowHistories.{history_more, upto_history, length_history}

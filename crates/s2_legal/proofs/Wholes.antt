@@ -1,8 +1,8 @@
 -- Transcripts and sessions side by side.
-use Rattle.std.proofs.Common.{◌≡◌, ℕ, suc, ◌+◌, ◌<◌, ◌≤◌, Bool, true, false, cond, List, [], ◌∷◌, length, map, filter, drop, get_or, ◌-◌, refl, sym, ap, ◌∙◌, subst, arith, length-drop}
-use Rattle.std.specs.Prelude.{◌||◌, ◌==◌, nat_eq}
+use Rattle.std.proofs.Common.{◌≡◌, ℕ, ◌+◌, ◌<◌, ◌≤◌, Bool, true, false, cond, List, [], ◌∷◌, length, map, filter, drop, get_or, ◌-◌, refl, sym, ap, ◌∙◌, subst, arith, length-drop}
+use Rattle.std.specs.Prelude.{◌||◌, nat_eq}
 use Rattle.std.specs.List.{list_any, AllByRecursion}
-use Rattle.std.proofs.lemmas.Bool.{false≢true, true≢false, eqb-true, agree_below, agree_below_at}
+use Rattle.std.proofs.lemmas.Bool.{false≢true, eqb-true, agree_below, agree_below_at}
 use Rattle.std.proofs.lemmas.List.{drop_more, drop_all}
 use Rattle.s2_model.specs.declared.outcomes.Transcript.{Transcript}
 use Rattle.s2_model.specs.declared.scripts.Line.{Line}
@@ -72,9 +72,11 @@ pub taken_side : (lines : List Line) (t : Transcript) (ts : List Transcript) (k 
     → (t.session ≡ k) × (length t.said ≡ length (stmts_of k lines)) × Side lines ts ks
 taken_side lines t ts k ks lt side =
     let told : t.session ∷ map (λ t. t.session) ts ≡ k ∷ those lines ks = side.sessions ∙ with_line lines k ks lt in
-    let here = head_is t.session k (map (λ t. t.session) ts) (those lines ks) told in
-    (here, side.even.0 ∙ ap (λ (j : ℕ). length (stmts_of j lines)) here,
-        record { sessions = tail_is t.session k (map (λ t. t.session) ts) (those lines ks) told; even = side.even.1 })
+    let here = head_is t.session k (map (λ t. t.session) ts) (those lines ks) told in (
+      here,
+      side.even.0 ∙ ap (λ (j : ℕ). length (stmts_of j lines)) here,
+      record { sessions = tail_is t.session k (map (λ t. t.session) ts) (those lines ks) told; even = side.even.1 },
+    )
 
 pub none_taken : (lines : List Line) (k : ℕ) (ks : List ℕ) → 0 < length (stmts_of k lines) → Side lines [] (k ∷ ks) → ⊥
 none_taken lines k ks lt side = let told : [] ≡ k ∷ those lines ks = side.sessions ∙ with_line lines k ks lt in cc
@@ -131,7 +133,7 @@ module _ (lines : List Line) (ts : List Transcript) (taken k : ℕ) (low : 1 ≤
   on_takes t lt at some here even side =
       subst (λ (us : List Transcript). With us (from_session k)) (sym (split t lt at))
       (subst (λ (ks : List ℕ). With (t ∷ drop (taken + 1) ts) ks) (sym (next_session k low high))
-          (side_takes lines t (drop (taken + 1) ts) k (from_session (k + 1)) some here even side))
+      (side_takes lines t (drop (taken + 1) ts) k (from_session (k + 1)) some here even side))
 
   pub back_takes : (t : Transcript) → taken < length ts → t ≡ get_or ts taken t → 0 < length (stmts_of k lines) → Side lines (drop taken ts) (from_session k)
       → (t.session ≡ k) × (length t.said ≡ length (stmts_of k lines)) × Side lines (drop (taken + 1) ts) (from_session (k + 1))

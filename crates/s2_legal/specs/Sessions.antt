@@ -1,5 +1,5 @@
 -- The first wrong step of a session.
-use Rattle.std.specs.Prelude.{◌≡◌, ℕ, suc, ◌<◌, Bool, true, List, ◌∷◌, Option, Some, None, length}
+use Rattle.std.specs.Prelude.{◌≡◌, ℕ, suc, Bool, true, List, ◌∷◌, Option, Some, None, length}
 use Rattle.std.specs.List.{list_all}
 use Rattle.s2_value.specs.declared.schemas.Schema.{Schema}
 use Rattle.s2_model.specs.declared.outcomes.Said.{Said}

@@ -1,5 +1,5 @@
 -- The content after a history with each actor's open writes, as a fold over the entries keeps it.
-use Rattle.std.specs.Prelude.{◌≡◌, ℕ, suc, ◌+◌, ◌<◌, ◌≤◌, Bool, true, false, List, [], ◌∷◌, ◌++◌, Option, Some, None, length, map, filter, slice_index_or, not, ◌&&◌, ◌||◌, ◌==◌, if◌then◌else◌, is_some, nat_lt, nat_le}
+use Rattle.std.specs.Prelude.{◌≡◌, ℕ, suc, ◌+◌, ◌<◌, ◌≤◌, Bool, true, false, List, [], ◌∷◌, Option, Some, None, length, map, filter, slice_index_or, not, ◌&&◌, ◌||◌, ◌==◌, if◌then◌else◌, is_some, nat_lt, nat_le}
 use Rattle.std.specs.List.{find, list_all}
 use Rattle.std.specs.Option.{option_map, option_or}
 use Rattle.s2_value.specs.declared.schemas.Schema.{Schema}

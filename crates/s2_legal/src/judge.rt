@@ -26,12 +26,7 @@ fn transcript_of(transcripts: &[Transcript], k: u8) -> Option<&Transcript>
 }
 
 /// The first wrong step of one session.
-fn fault_of(
-    alloc: Global,
-    script: &Script,
-    run: &Outcome,
-    k: u8,
-) -> Result<Option<u64>, Memory>
+fn fault_of(alloc: Global, script: &Script, run: &Outcome, k: u8) -> Result<Option<u64>, Memory>
     requires whole { IsWhole script.now run.now }
     requires built { IsBuilt script.now run.now }
     requires session { is_session k ≡ true }

@@ -20,10 +20,8 @@ fn same_refusal(a: &Refusal, b: &Refusal) -> bool
     match (a, b) {
         (Refusal::LogFull, Refusal::LogFull) => true,
         (Refusal::TooManyRows, Refusal::TooManyRows) => true,
-        (
-            Refusal::Locked { row: m, holder: j },
-            Refusal::Locked { row: n, holder: k },
-        ) => *m == *n && *j == *k,
+        (Refusal::Locked { row: m, holder: j }, Refusal::Locked { row: n, holder: k }) => *m == *n
+            && *j == *k,
         (Refusal::OutOfRange { row: m }, Refusal::OutOfRange { row: n }) => *m == *n,
         _ => false,
     }

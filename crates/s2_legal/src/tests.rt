@@ -1,9 +1,9 @@
 //! Worked outcomes and their mutations.
 use crate::{LegalAnswer, is_built, is_whole, legal};
 use s2_model::{
-    Cell, CellTable, Change, ChangeList, Condition, Entry, EntryList, Items, Line, LineList, Op, Options,
-    Outcome, Pred, Refusal, Reply, RowList, Said, SaidList, Script, Select, SetExpr, Stmt, Transcript,
-    TranscriptList, What,
+    Cell, CellTable, Change, ChangeList, Condition, Entry, EntryList, Items, Line, LineList, Op,
+    Options, Outcome, Pred, Refusal, Reply, RowList, Said, SaidList, Script, Select, SetExpr, Stmt,
+    Transcript, TranscriptList, What,
 };
 use s2_value::{Col, ColList, ColType, Name, Row, Schema, Seq, Value, are_within_limits};
 use sqlite_items::Boxed;
@@ -39,8 +39,11 @@ use Step::{Commit, Put};
 use Told::{Changed, Locked, Memory, Rows};
 
 type Lines = &'static [(u8, Asked)];
+
 type Entries = &'static [(u8, Step)];
+
 type Replies = &'static [(u64, u64, Told)];
+
 type Sessions = &'static [(u8, u64, Replies)];
 
 fn one_column(alloc: Global) -> Result<Schema, Fail> {
@@ -217,7 +220,14 @@ fn judged(
     Ok(legal(alloc, &script, &run)?)
 }
 
-const LINES: Lines = &[(1, Insert(7)), (1, All), (1, AddOne), (1, All), (1, DeleteId(8)), (1, All)];
+const LINES: Lines = &[
+    (1, Insert(7)),
+    (1, All),
+    (1, AddOne),
+    (1, All),
+    (1, DeleteId(8)),
+    (1, All),
+];
 
 const ENTRIES: Entries = &[
     (1, Put(&[(1, 7)])),
@@ -287,9 +297,19 @@ const DOUBLED: Entries = &[(1, Put(&[(1, 7)])), (1, Commit), (1, Commit)];
 
 const SKIPPED: Entries = &[(1, Put(&[(2, 7)])), (1, Commit)];
 
-const MORE: Entries = &[(1, Put(&[(1, 7)])), (1, Commit), (1, Put(&[(2, 9)])), (1, Commit)];
+const MORE: Entries = &[
+    (1, Put(&[(1, 7)])),
+    (1, Commit),
+    (1, Put(&[(2, 9)])),
+    (1, Commit),
+];
 
-const OTHERS: Entries = &[(1, Put(&[(1, 7)])), (1, Commit), (3, Put(&[(2, 9)])), (3, Commit)];
+const OTHERS: Entries = &[
+    (1, Put(&[(1, 7)])),
+    (1, Commit),
+    (3, Put(&[(2, 9)])),
+    (3, Commit),
+];
 
 const REFUSED: Sessions = &[(1, 0, &[(0, 0, Memory), (0, 0, Rows(&[]))])];
 
@@ -345,9 +365,15 @@ fn entries(rt: HostRuntime) -> Result<(), Fail> {
     // Two rows told, one inserted.
     assert_eq!(rt; judged(rt.alloc(), INSERT, ONCE, TWO)?, Wrong(1, 1));
     // A commit that follows no write.
-    assert_eq!(rt; judged(rt.alloc(), INSERT, DOUBLED, SAID)?, LegalAnswer::Entry(3));
+    assert_eq!(rt;
+        judged(rt.alloc(), INSERT, DOUBLED, SAID)?,
+        LegalAnswer::Entry(3)
+    );
     // A row number is skipped.
-    assert_eq!(rt; judged(rt.alloc(), INSERT, SKIPPED, SAID)?, LegalAnswer::Entry(1));
+    assert_eq!(rt;
+        judged(rt.alloc(), INSERT, SKIPPED, SAID)?,
+        LegalAnswer::Entry(1)
+    );
     // A further write that no reply made.
     assert_eq!(rt; judged(rt.alloc(), INSERT, MORE, SAID)?, Wrong(1, 3));
     // The same of a session without a line.

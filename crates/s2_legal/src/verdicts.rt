@@ -86,11 +86,7 @@ fn first_out_of_range(
 }
 
 /// The first of the matched rows of which a sum leaves 64 bits.
-fn out_of_range(
-    alloc: Global,
-    stmt: &Stmt,
-    rows: &[(u64, Row)],
-) -> Result<Option<Refusal>, Memory>
+fn out_of_range(alloc: Global, stmt: &Stmt, rows: &[(u64, Row)]) -> Result<Option<Refusal>, Memory>
     ensures first { IfOk result (λ r. r ≡ out_of_range stmt.now rows.now) }
     ensures kind { IfOk result (λ o. IfSome o (λ r. is_ruled_refusal r ≡ true)) }
 {

@@ -1,4 +1,2 @@
-pub mod PlainLemmas
-pub mod Turns
-pub mod FirstLines
-pub mod CellLemmas
+mod Bridges
+mod Closings

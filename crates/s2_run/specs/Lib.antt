@@ -1,3 +1,2 @@
-pub mod Plain
-pub mod Puts
+pub mod Texts
 pub mod Top

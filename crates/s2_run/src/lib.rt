@@ -1,15 +1,14 @@
-//! The top call: a script is read, run and answered.
+//! The top call: the words are read, a script is run or an output is judged, and the answer is written.
 #![tactic(auto)]
 
-mod cells;
-mod drive;
 mod endings;
-mod plain;
+mod kinds;
 #[cfg(test)]
 mod tests;
 mod texts;
 mod top;
 
-pub use drive::drive_call;
 pub use endings::Ending;
+pub use s2_check::check_call;
+pub use s2_plain::drive_call;
 pub use top::s2table;

@@ -18,7 +18,9 @@ const EXTREMES: &[u8] =
 const EXTREMES_OUTPUT: &[u8] =
     b"SESSION 1 3 0\n0 0 OK 1\n2 0 OK 1\n4 0 ROWS 2\n(-9223372036854775808, '')\n(9223372036854775807, 'it''s')\nHISTORY 4\n1 WRITE PUT 1 (-9223372036854775808, '')\n1 COMMIT\n1 WRITE PUT 2 (9223372036854775807, 'it''s')\n1 COMMIT\nEND\n";
 
-const NOT_BUILT: &[u8] = b"script error: line 0: NotBuilt\n";
+const TABLE: &[u8] = b"CREATE TABLE t (id INT);\n";
+
+const HISTORY: &[u8] = b"HISTORY 2\n1 WRITE PUT 1 (7, 'ab')\n1 COMMIT\nEND\n";
 
 /// Takes one byte a call.
 #[derive(Drop)]
@@ -62,50 +64,91 @@ fn run(
     Ok(s2table(alloc, words.as_slice(), &mut src, sink))
 }
 
+const DRIVE: &[&str] = &["--mode", "drive"];
+
 #[test]
 fn runs_end_so(rt: HostRuntime) -> Result<(), Fail> {
     let alloc = rt.alloc();
-    let drive: &[&str] = &["--mode", "drive"];
-    let cases: [(&[&str], &[u8], &[u64], &[u64], u8, &[u8]); 14] = [
+    let cases: [(&[&str], &[u8], &[u64], &[u64], u8, &[u8]); 12] = [
         (&[], SCRIPT, &[], &[], 0, OUTPUT),
-        (drive, SCRIPT, &[], &[], 0, OUTPUT),
-        (drive, EXTREMES, &[], &[], 0, EXTREMES_OUTPUT),
-        (
-            drive,
-            b"CREATE TABLE t (id INT);\n",
-            &[],
-            &[],
-            0,
-            b"HISTORY 0\nEND\n",
-        ),
+        (DRIVE, SCRIPT, &[], &[], 0, OUTPUT),
+        (DRIVE, EXTREMES, &[], &[], 0, EXTREMES_OUTPUT),
+        (DRIVE, TABLE, &[], &[], 0, b"HISTORY 0\nEND\n"),
         (&["--mode", "fly"], SCRIPT, &[], &[], 2, b"usage error\n"),
         (&["--mode"], SCRIPT, &[], &[], 2, b"usage error\n"),
         (
-            &["--mode", "drive", "x"],
-            SCRIPT,
-            &[],
-            &[],
-            2,
-            b"usage error\n",
-        ),
-        (drive, b"", &[], &[], 3, NOT_BUILT),
-        (drive, b"CREATE TABLE t (id INT);", &[], &[], 3, NOT_BUILT),
-        (
-            drive,
-            b"CREATE TABLE t (id INT);\n2: SELECT * FROM t;\n",
+            DRIVE,
+            b"",
             &[],
             &[],
             3,
-            NOT_BUILT,
+            b"script error: line 1: Misplaced\n",
         ),
-        (drive, SCRIPT, &[1], &[], 4, b"source fault\n"),
-        (drive, SCRIPT, &[2], &[], 4, b"source fault\n"),
-        (drive, SCRIPT, &[], &[1], 5, b""),
+        (DRIVE, SCRIPT, &[1], &[], 4, b"source fault\n"),
+        (DRIVE, SCRIPT, &[2], &[], 4, b"source fault\n"),
+        (DRIVE, SCRIPT, &[], &[1], 5, b""),
         (&["--mode", "fly"], SCRIPT, &[], &[1], 5, b""),
+        (
+            DRIVE,
+            b"CREATE TABLE t (id INT)\n1: COMMIT",
+            &[],
+            &[],
+            3,
+            b"script error: line 2: NotBuilt\n",
+        ),
     ];
     for (words, input, reads, writes, status, text) in cases {
         let mut sink = MemSink::new(alloc, Vec::new(alloc));
         assert_eq!(rt; run(alloc, words, input, reads, writes, &mut sink)?, status);
+        assert_eq!(rt; sink.bytes(), text);
+    }
+    Ok(())
+}
+
+const CHECK: &[&str] = &["--mode", "check"];
+
+/// The script, the mark, and these lines.
+fn with_output(alloc: Global, lines: &[&[u8]]) -> Result<Vec<u8>, AllocError> {
+    let mut input = Vec::from_slice(alloc, SCRIPT)?;
+    input.extend_from_slice(b"==OUTPUT==\n")?;
+    for line in lines {
+        input.extend_from_slice(line)?;
+    }
+    Ok(input)
+}
+
+#[test]
+fn outputs_are_judged(rt: HostRuntime) -> Result<(), Fail> {
+    let alloc = rt.alloc();
+    let cases: [(&[&[u8]], u8, &[u8]); 4] = [
+        (&[OUTPUT], 0, b"legal\n"),
+        (
+            &[b"SESSION 1 2 0\n0 0 OK 2\n2 0 ROWS 1\n(7, 'ab')\n", HISTORY],
+            7,
+            b"not legal: session 1 reply 1\n",
+        ),
+        (
+            &[
+                b"SESSION 1 2 0\n0 0 OK 1\n2 0 ROWS 1\n(7, 'ab')\n",
+                b"HISTORY 3\n1 WRITE PUT 1 (7, 'ab')\n1 COMMIT\n1 COMMIT\nEND\n",
+            ],
+            7,
+            b"not legal: entry 3\n",
+        ),
+        (
+            &[
+                b"SESSION 1 2 0\n0 0 OK 1\n2 0 ROWS 1\n(7, 'ab')\n",
+                b"HISTORY 2\n1 WRITE PUT 1 (7, 'ab')\n1 COMMIT\n",
+            ],
+            7,
+            b"not an output: line 8\n",
+        ),
+    ];
+    for (lines, status, text) in cases {
+        let input = with_output(alloc, lines)?;
+        let mut sink = MemSink::new(alloc, Vec::new(alloc));
+        let found = run(alloc, CHECK, input.as_slice(), &[], &[], &mut sink)?;
+        assert_eq!(rt; found, status);
         assert_eq!(rt; sink.bytes(), text);
     }
     Ok(())

@@ -1,4 +1,4 @@
-use Rattle.std.proofs.Common.{◌≡◌, take}
+use Rattle.std.proofs.Common.{take}
 use Rattle.s2_model.specs.declared.scripts.Options.{Options}
 use Rattle.s2_model.specs.History.{history}
 use Rattle.s2_model.specs.Fits.{AllFit}

@@ -1,4 +1,4 @@
-use Rattle.std.proofs.Common.{◌≡◌, ◌≤◌, suc, length, filter}
+use Rattle.std.proofs.Common.{◌≡◌, suc, length, filter}
 use Rattle.std.specs.Prelude.{nat_le}
 use Rattle.s2_model.specs.declared.entries.Change.{Change}
 use Rattle.s2_model.specs.Table.{number_of}

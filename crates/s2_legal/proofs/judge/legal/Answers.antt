@@ -14,7 +14,7 @@ returns-in-Some c =
     let schema = c.args.script.now.schema in
     let options = c.args.script.now.options in
     let told = subst (λ (o : Option ℕ). MatchOption o (AllFit schema options (history c.as_slice.result.now)) (λ n. IsFirstUnfit schema options (history c.as_slice.result.now) n))
-        c.in-Some.is (c.in_ok-entry.ensures options) in
+    c.in-Some.is (c.in_ok-entry.ensures options) in
     subst (λ (xs : List Entry). IsFirstUnfit schema options (history xs) c.in-Some.entry) c.as_slice.ensures told
 
 pub returns : goal.returns
@@ -22,10 +22,10 @@ returns c =
     let schema = c.args.script.now.schema in
     let options = c.args.script.now.options in
     let told = subst (λ (o : Option ℕ). MatchOption o (AllFit schema options (history c.as_slice.result.now)) (λ n. IsFirstUnfit schema options (history c.as_slice.result.now) n))
-        c.in_default.is (c.in_ok-entry.ensures options) in
+    c.in_default.is (c.in_ok-entry.ensures options) in
     let fit = subst (λ (xs : List Entry). AllFit schema options (history xs)) c.as_slice.ensures told in
     legal_from c.args.script.now c.args.run.now c.requires.whole fit
     (λ k session.
-        let few = leb-true k 16 (parts (nat_le 1 k) (nat_le k 16) session).1 in
-        let lt : k < c.loop-k.k = omega (arith, few) in
-        c.loop-k.invariant k session lt)
+    let few = leb-true k 16 (parts (nat_le 1 k) (nat_le k 16) session).1 in
+    let lt : k < c.loop-k.k = omega (arith, few) in
+    c.loop-k.invariant k session lt)

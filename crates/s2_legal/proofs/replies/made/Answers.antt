@@ -1,4 +1,4 @@
-use Rattle.std.proofs.Common.{◌≡◌, ◌≤◌, ◌∙◌, true, List, length, take, ap, sym, subst, arith}
+use Rattle.std.proofs.Common.{◌≡◌, ◌≤◌, ◌∙◌, true, List, length, take, sym, subst, arith}
 use Rattle.std.proofs.lemmas.Bool.{both_ways}
 use Rattle.s2_model.specs.declared.entries.Change.{Change}
 use Rattle.s2_model.specs.History.{History, history, upto}
@@ -20,8 +20,8 @@ returns-then-same_reply-clause-end c = λ schema keyless.
     let cs = c.in_ok-ruled.ruled.changes.items in
     let front : are_built (history (take r h)) ≡ true = from_upto (λ (X : History). are_built X ≡ true) h r c.requires.place (built_upto r H c.requires.built) in
     let told : verdict schema (upto r H) c.args.k c.args.stmt.now ≡ ruled V cs =
-        at_upto (λ (X : History). verdict schema X c.args.k c.args.stmt.now ≡ ruled V cs) h r c.requires.place
-        (c.in_ok-ruled.ensures.rules schema (history (take r h)) c.requires.world front keyless (length_front h r c.requires.place)) in
+    at_upto (λ (X : History). verdict schema X c.args.k c.args.stmt.now ≡ ruled V cs) h r c.requires.place
+    (c.in_ok-ruled.ensures.rules schema (history (take r h)) c.requires.world front keyless (length_front h r c.requires.place)) in
     made_same schema H c.args.k r c.args.stmt.now c.args.reply.now V cs told c.requires.stmt c.in_ok-ruled.ensures.kind
     (c.same_reply.ensures.0 c.if-same_reply.true) c.stand.result
     (subst (λ (ds : List Change). IsStand H r c.args.k (committed ds) c.stand.result) c.deref.ensures.value c.stand.ensures.end)
@@ -35,8 +35,8 @@ returns-then-is_memory-clause-end c = λ schema keyless.
     let cs = c.in_ok-ruled.ruled.changes.items in
     let front : are_built (history (take r h)) ≡ true = from_upto (λ (X : History). are_built X ≡ true) h r c.requires.place (built_upto r H c.requires.built) in
     let told : verdict schema (upto r H) c.args.k c.args.stmt.now ≡ ruled V cs =
-        at_upto (λ (X : History). verdict schema X c.args.k c.args.stmt.now ≡ ruled V cs) h r c.requires.place
-        (c.in_ok-ruled.ensures.rules schema (history (take r h)) c.requires.world front keyless (length_front h r c.requires.place)) in
+    at_upto (λ (X : History). verdict schema X c.args.k c.args.stmt.now ≡ ruled V cs) h r c.requires.place
+    (c.in_ok-ruled.ensures.rules schema (history (take r h)) c.requires.world front keyless (length_front h r c.requires.place)) in
     let within : r ≤ length H = omega (arith, length_history h, c.requires.place) in
     made_memory schema H c.args.k r c.args.stmt.now c.args.reply.now V cs told c.requires.stmt c.in_ok-ruled.ensures.kind
     (λ e. both_ways c.same_reply.result c.if-same_reply.false (c.same_reply.ensures.1 e)) (sym c.is_memory.ensures ∙ c.if-is_memory.true) within
@@ -50,7 +50,7 @@ returns-clause-end c = λ schema keyless.
     let cs = c.in_ok-ruled.ruled.changes.items in
     let front : are_built (history (take r h)) ≡ true = from_upto (λ (X : History). are_built X ≡ true) h r c.requires.place (built_upto r H c.requires.built) in
     let told : verdict schema (upto r H) c.args.k c.args.stmt.now ≡ ruled V cs =
-        at_upto (λ (X : History). verdict schema X c.args.k c.args.stmt.now ≡ ruled V cs) h r c.requires.place
-        (c.in_ok-ruled.ensures.rules schema (history (take r h)) c.requires.world front keyless (length_front h r c.requires.place)) in
+    at_upto (λ (X : History). verdict schema X c.args.k c.args.stmt.now ≡ ruled V cs) h r c.requires.place
+    (c.in_ok-ruled.ensures.rules schema (history (take r h)) c.requires.world front keyless (length_front h r c.requires.place)) in
     made_not schema H c.args.k r c.args.stmt.now c.args.reply.now V cs told c.requires.stmt c.in_ok-ruled.ensures.kind
     (λ e. both_ways c.same_reply.result c.if-same_reply.false (c.same_reply.ensures.1 e)) (sym c.is_memory.ensures ∙ c.if-is_memory.false)

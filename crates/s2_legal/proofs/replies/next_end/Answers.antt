@@ -1,6 +1,6 @@
-use Rattle.std.proofs.Common.{◌≡◌, ◌≤◌, ℕ, Option, Some, length, take, sym, subst, arith}
+use Rattle.std.proofs.Common.{◌≤◌, ℕ, Option, Some, length, subst, arith}
 use Rattle.std.proofs.lemmas.Bool.{both_ways}
-use Rattle.s2_model.specs.History.{history, upto, own}
+use Rattle.s2_model.specs.History.{history}
 use Rattle.s2_slow.proofs.SlowHistories.{length_history}
 use Rattle.s2_legal.specs.World.{IsMade, IsEnd}
 use Rattle.s2_legal.proofs.Answering.{end_next}

@@ -1,7 +1,7 @@
-use Rattle.std.proofs.Common.{◌≡◌, true, List, subst, sym, ◌∙◌, Decides}
-use Rattle.std.specs.Cmp.Lexicographic.{pointwise, pointwise_decides}
+use Rattle.std.proofs.Common.{◌≡◌, true, subst, sym, ◌∙◌, Decides}
+use Rattle.std.specs.Cmp.Lexicographic.{pointwise_decides}
 use Rattle.s2_value.specs.declared.values.Value.{Value}
-use Rattle.s2_value.specs.Order.{value_eq, value_eq_equiv, row_eq, same_value}
+use Rattle.s2_value.specs.Order.{value_eq, value_eq_equiv, same_value}
 use Rattle.s2_legal.proofs.same.same_row.Goals as goal
 
 value_decides : (x y : Value) → Decides (value_eq x y) (x ≡ y)

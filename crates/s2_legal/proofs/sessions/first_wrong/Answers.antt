@@ -1,9 +1,9 @@
-use Rattle.std.proofs.Common.{◌≡◌, ◌+◌, ◌<◌, ◌≤◌, ℕ, List, [], ◌∷◌, Option, Some, None, length, drop, refl, sym, ap, ◌∙◌, subst, arith, length-drop}
+use Rattle.std.proofs.Common.{◌≡◌, ◌+◌, ◌<◌, ◌≤◌, ℕ, List, [], ◌∷◌, Option, Some, length, drop, sym, ap, ◌∙◌, subst, arith}
 use Rattle.std.proofs.lemmas.Bool.{both_ways}
 use Rattle.std.proofs.lemmas.List.{drop_more, drop_all, nil_from_length}
 use Rattle.s2_model.specs.declared.outcomes.Said.{Said}
 use Rattle.s2_model.specs.declared.statements.Stmt.{Stmt}
-use Rattle.s2_model.specs.History.{history, own, upto}
+use Rattle.s2_model.specs.History.{history}
 use Rattle.s2_model.specs.Legal.{stmts_of}
 use Rattle.s2_legal.specs.Sessions.{IsNextLine, IsFirstWrong}
 use Rattle.s2_legal.specs.World.{IsEnd, IsNext}
@@ -35,7 +35,7 @@ returns-in-None c = λ schema options marks keyless.
     let lt : i < length said = omega arith in
     let saids : drop i said ≡ d ∷ drop (i + 1) said = drop_more said i d lt ∙ ap (λ (x : Said). x ∷ drop (i + 1) said) (sym c.index-said-i.is) in
     let st = subst (λ (ss : List Stmt). Stands schema options marks H k c.args.faults all said i c.loop-i.floor c.loop-i.was ss (d ∷ drop (i + 1) said)) told.first
-        (subst (λ (ds : List Said). Stands schema options marks H k c.args.faults all said i c.loop-i.floor c.loop-i.was (stmts_of k c.loop-i.left.now) ds) saids (c.loop-i.invariant.stands schema options marks keyless)) in
+    (subst (λ (ds : List Said). Stands schema options marks H k c.args.faults all said i c.loop-i.floor c.loop-i.was (stmts_of k c.loop-i.left.now) ds) saids (c.loop-i.invariant.stands schema options marks keyless)) in
     wrong_next schema options marks H k c.args.faults all said i c.loop-i.floor c.loop-i.was s rest d (drop (i + 1) said) c.requires.built told.built st
     (subst (λ (o : Option ℕ). IsEnd H d.r (IsNext schema H k c.loop-i.floor c.loop-i.was s d) o) c.in-None.is (c.in_ok-end.ensures.end schema keyless))
 
@@ -60,7 +60,7 @@ loop-i-preserved c =
       even = omega (arith, c.loop-i.invariant.even, ap length told.first, ap length saids);
       stands = λ schema options marks keyless.
           let st = subst (λ (ss : List Stmt). Stands schema options marks H k c.args.faults all said i c.loop-i.floor c.loop-i.was ss (d ∷ drop (i + 1) said)) told.first
-              (subst (λ (ds : List Said). Stands schema options marks H k c.args.faults all said i c.loop-i.floor c.loop-i.was (stmts_of k c.loop-i.left.now) ds) saids (c.loop-i.invariant.stands schema options marks keyless)) in
+          (subst (λ (ds : List Said). Stands schema options marks H k c.args.faults all said i c.loop-i.floor c.loop-i.was (stmts_of k c.loop-i.left.now) ds) saids (c.loop-i.invariant.stands schema options marks keyless)) in
           stands_next schema options marks H k c.args.faults all said i c.loop-i.floor c.loop-i.was s rest d (drop (i + 1) said) c.requires.built told.built st c.in-Some-2.end
           (subst (λ (o : Option ℕ). IsEnd H d.r (IsNext schema H k c.loop-i.floor c.loop-i.was s d) o) c.in-Some-2.is (c.in_ok-end.ensures.end schema keyless));
     }
@@ -76,15 +76,15 @@ returns-then-was-faults c = λ schema options marks keyless.
     let none : drop i said ≡ [] = drop_all i said c.loop-i-test.false in
     let empty : stmts_of k c.loop-i.left.now ≡ [] = nil_from_length (stmts_of k c.loop-i.left.now) (sym c.loop-i.invariant.even ∙ ap length none) in
     let st = subst (λ (ss : List Stmt). Stands schema options marks H k c.args.faults all said i c.loop-i.floor c.loop-i.was ss []) empty
-        (subst (λ (ds : List Said). Stands schema options marks H k c.args.faults all said i c.loop-i.floor c.loop-i.was (stmts_of k c.loop-i.left.now) ds) none (c.loop-i.invariant.stands schema options marks keyless)) in
+    (subst (λ (ds : List Said). Stands schema options marks H k c.args.faults all said i c.loop-i.floor c.loop-i.was (stmts_of k c.loop-i.left.now) ds) none (c.loop-i.invariant.stands schema options marks keyless)) in
     let at : i ≡ length said = omega arith in
     subst (λ (n : ℕ). IsFirstWrong schema options marks H k c.args.faults all said (Some (n + 1))) at
     (wrong_end schema options marks H k c.args.faults all said i c.loop-i.floor c.loop-i.was st (λ few quiet.
-        elim c.then-was-faults.branch [
-          | then-was-faults-via-then-was-faults w ↦ omega (arith, few, w.if-was-faults.true)
-          | then-was-faults-via-else-was-faults+then-not-is_quiet w ↦
-              both_ways w.is_quiet.result w.if-not-is_quiet.true (w.is_quiet.ensures.1 (quiet_all h k c.loop-i.floor c.loop-i.invariant.place quiet))
-        ]))
+    elim c.then-was-faults.branch [
+      | then-was-faults-via-then-was-faults w ↦ omega (arith, few, w.if-was-faults.true)
+      | then-was-faults-via-else-was-faults+then-not-is_quiet w ↦
+          both_ways w.is_quiet.result w.if-not-is_quiet.true (w.is_quiet.ensures.1 (quiet_all h k c.loop-i.floor c.loop-i.invariant.place quiet))
+    ]))
 
 pub returns : goal.returns
 returns c = λ schema options marks keyless.
@@ -97,7 +97,7 @@ returns c = λ schema options marks keyless.
     let none : drop i said ≡ [] = drop_all i said c.loop-i-test.false in
     let empty : stmts_of k c.loop-i.left.now ≡ [] = nil_from_length (stmts_of k c.loop-i.left.now) (sym c.loop-i.invariant.even ∙ ap length none) in
     let st = subst (λ (ss : List Stmt). Stands schema options marks H k c.args.faults all said i c.loop-i.floor c.loop-i.was ss []) empty
-        (subst (λ (ds : List Said). Stands schema options marks H k c.args.faults all said i c.loop-i.floor c.loop-i.was (stmts_of k c.loop-i.left.now) ds) none (c.loop-i.invariant.stands schema options marks keyless)) in
+    (subst (λ (ds : List Said). Stands schema options marks H k c.args.faults all said i c.loop-i.floor c.loop-i.was (stmts_of k c.loop-i.left.now) ds) none (c.loop-i.invariant.stands schema options marks keyless)) in
     let at : i ≡ length said = omega arith in
     let few : c.loop-i.was ≤ c.args.faults = omega arith in
     right_all schema options marks H k c.args.faults all said i c.loop-i.floor c.loop-i.was st at few (all_quiet h k c.loop-i.floor c.loop-i.invariant.place (c.is_quiet.ensures.0 c.if-not-is_quiet.false))

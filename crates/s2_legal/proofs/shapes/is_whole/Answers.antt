@@ -17,21 +17,22 @@ returns-then-taken-transcripts c =
     let some : 0 < length (stmts_of k lines) = omega (arith, count, c.if-count-gt0.true) in
     let low : 1 ≤ k = omega arith in
     let high : k < 17 = omega arith in
-    let all : length c.as_slice-transcripts.result.now ≡ length ts = ap length c.as_slice-transcripts.ensures in
-    (λ e. absurd (false≢true e),
-        λ whole.
-        let side = c.loop-k.invariant.back (side_of c.args.script.now c.args.run.now whole) in
-        elim c.then-taken-transcripts.branch [
-          | then-taken-transcripts-via-then-taken-transcripts w ↦
-              let past : length ts ≤ taken = omega (arith, all, w.if-taken-transcripts.true) in
-              absurd (back_none lines ts taken k low high past some side)
-          | then-taken-transcripts-via-else-taken-transcripts+then-not-is_of w ↦
-              let t = w.index-transcripts-taken.result in
-              let lt : taken < length ts = omega (arith, all, w.if-taken-transcripts.false) in
-              let at : t ≡ get_or ts taken t = w.index-transcripts-taken.is ∙ ap (λ (xs : List Transcript). get_or xs taken t) c.as_slice-transcripts.ensures in
-              let told = back_takes lines ts taken k low high t lt at some side in
-              absurd (both_ways w.is_of.result w.if-not-is_of.true (w.is_of.ensures.1 (told.0, told.1 ∙ sym count)))
-        ])
+    let all : length c.as_slice-transcripts.result.now ≡ length ts = ap length c.as_slice-transcripts.ensures in (
+      λ e. absurd (false≢true e),
+      λ whole.
+          let side = c.loop-k.invariant.back (side_of c.args.script.now c.args.run.now whole) in
+          elim c.then-taken-transcripts.branch [
+            | then-taken-transcripts-via-then-taken-transcripts w ↦
+                let past : length ts ≤ taken = omega (arith, all, w.if-taken-transcripts.true) in
+                absurd (back_none lines ts taken k low high past some side)
+            | then-taken-transcripts-via-else-taken-transcripts+then-not-is_of w ↦
+                let t = w.index-transcripts-taken.result in
+                let lt : taken < length ts = omega (arith, all, w.if-taken-transcripts.false) in
+                let at : t ≡ get_or ts taken t = w.index-transcripts-taken.is ∙ ap (λ (xs : List Transcript). get_or xs taken t) c.as_slice-transcripts.ensures in
+                let told = back_takes lines ts taken k low high t lt at some side in
+                absurd (both_ways w.is_of.result w.if-not-is_of.true (w.is_of.ensures.1 (told.0, told.1 ∙ sym count)))
+          ],
+    )
 
 pub loop-k-preserved : goal.loop-k-preserved
 loop-k-preserved c =
@@ -73,11 +74,12 @@ returns c =
     let k = c.loop-k.k in
     let taken = c.loop-k.taken in
     let at : k ≡ 17 = omega arith in
-    let all : length c.as_slice-transcripts.result.now ≡ length ts = ap length c.as_slice-transcripts.ensures in
-    (λ e.
-        let same = eqb-true taken (length c.as_slice-transcripts.result.now) e in
-        let past : length ts ≤ taken = omega (arith, all, same) in
-        whole_of c.args.script.now c.args.run.now (c.loop-k.invariant.on (on_end lines ts taken k at past)),
-        λ whole.
-        let past = back_end lines ts taken k at (c.loop-k.invariant.back (side_of c.args.script.now c.args.run.now whole)) in
-        eq-eqb taken (length c.as_slice-transcripts.result.now) (omega (arith, past, all, c.loop-k.invariant.within)))
+    let all : length c.as_slice-transcripts.result.now ≡ length ts = ap length c.as_slice-transcripts.ensures in (
+      λ e.
+          let same = eqb-true taken (length c.as_slice-transcripts.result.now) e in
+          let past : length ts ≤ taken = omega (arith, all, same) in
+          whole_of c.args.script.now c.args.run.now (c.loop-k.invariant.on (on_end lines ts taken k at past)),
+      λ whole.
+          let past = back_end lines ts taken k at (c.loop-k.invariant.back (side_of c.args.script.now c.args.run.now whole)) in
+          eq-eqb taken (length c.as_slice-transcripts.result.now) (omega (arith, past, all, c.loop-k.invariant.within)),
+    )

@@ -1,0 +1,83 @@
+-- Statements that suit their table are those that the plain engine runs.
+use Rattle.std.proofs.Common.{◌≡◌, ℕ, Bool, true, false, List, [], ◌∷◌, Option, Some, None, length, map, slice_get, option_map, ◌&&◌, ◌==◌, refl, ap, sym, ◌∙◌, subst, arith}
+use Rattle.std.specs.List.{AllByRecursion, list_all}
+use Rattle.s2_value.specs.declared.values.ColType.{ColType}
+use Rattle.s2_value.specs.declared.values.ColType.TheVariants as kind
+use Rattle.s2_value.specs.declared.values.Value.{Value}
+use Rattle.s2_value.specs.declared.values.Value.TheVariants as value
+use Rattle.s2_value.specs.declared.schemas.Col.{Col}
+use Rattle.s2_value.specs.declared.schemas.Schema.{Schema}
+use Rattle.s2_value.specs.Rows.{is_of, fits_columns}
+use Rattle.s2_value.specs.Schemas.{fits}
+use Rattle.s2_model.specs.declared.statements.SetExpr.{SetExpr}
+use Rattle.s2_model.specs.declared.statements.SetExpr.TheVariants.{Given, Column, Plus, Minus}
+use Rattle.s2_model.specs.declared.statements.Stmt.{Stmt}
+use Rattle.s2_model.specs.declared.statements.Stmt.TheVariants.{Insert, Update, Delete, Select}
+use Rattle.s2_model.specs.declared.scripts.Line.{Line}
+use Rattle.s2_model.specs.declared.scripts.Script.{Script}
+use Rattle.s2_plain.specs.Script.{kind_at, is_kind, kind_of, has_kind, suits_as, suits, is_plain_stmt, is_plain_line, is_plain_script, IsPlainScript}
+use Rattle.s2_resolve.specs.Suits.{TakesValue, HasKind, HaveOneKind, ExprSuits, SetsSuit, StmtSuits, LinesSuit, IsBuiltScript}
+
+kind_found : (cols : List Col) (c : ℕ) (col : Col) → slice_get cols c ≡ Some col → kind_at cols c ≡ Some col.kind
+kind_found cols c col e = ap (λ (o : Option Col). option_map (λ x. x.kind) o) e
+
+kinds_equal : (a b : ColType) → a ≡ b → is_kind a (Some b) ≡ true
+kinds_equal kind.Int kind.Int e = refl
+kinds_equal kind.Int kind.Text e = absurd (cc)
+kinds_equal kind.Text kind.Int e = absurd (cc)
+kinds_equal kind.Text kind.Text e = refl
+
+value_kind : (k : ColType) (v : Value) → is_of k v ≡ true → is_kind (kind_of v) (Some k) ≡ true
+value_kind kind.Int (value.Int x) e = refl
+value_kind kind.Int (value.Text t) e = absurd (cc)
+value_kind kind.Text (value.Int x) e = absurd (cc)
+value_kind kind.Text (value.Text t) e = refl
+
+is_kind_at : (cols : List Col) (c : ℕ) (k : ColType) → HasKind cols c k → is_kind k (kind_at cols c) ≡ true
+is_kind_at cols c k (col, found, same) = ap (is_kind k) (kind_found cols c col found) ∙ kinds_equal k col.kind (sym same)
+
+takes_kind : (cols : List Col) (c : ℕ) (v : Value) → TakesValue cols c v → is_kind (kind_of v) (kind_at cols c) ≡ true
+takes_kind cols c v (col, found, fit) = ap (is_kind (kind_of v)) (kind_found cols c col found) ∙ value_kind col.kind v fit
+
+one_kind : (cols : List Col) (a b : ℕ) → HaveOneKind cols a b → has_kind cols a (kind_at cols b) ≡ true
+one_kind cols a b (c, d, at_a, at_b, same) =
+    ap (has_kind cols a) (kind_found cols b d at_b)
+    ∙ ap (is_kind d.kind) (kind_found cols a c at_a)
+    ∙ kinds_equal d.kind c.kind (sym same)
+
+both : (a b : Bool) → a ≡ true → b ≡ true → (a && b) ≡ true
+both a b e f = rw e (rw f refl)
+
+expr_suits : (cols : List Col) (c : ℕ) (e : SetExpr) → ExprSuits cols c e → suits_as cols c e ≡ true
+expr_suits cols c (Given v) h = takes_kind cols c v h
+expr_suits cols c (Column d) h = one_kind cols c d h
+expr_suits cols c (Plus d n) h = both _ _ (is_kind_at cols c kind.Int h.0) (is_kind_at cols d kind.Int h.1)
+expr_suits cols c (Minus d n) h = both _ _ (is_kind_at cols c kind.Int h.0) (is_kind_at cols d kind.Int h.1)
+
+sets_suit : (cols : List Col) (sets : List (ℕ × SetExpr)) → AllByRecursion (λ s. ExprSuits cols s.0 s.1) sets → list_all (suits cols) sets ≡ true
+sets_suit cols [] h = refl
+sets_suit cols (s ∷ sets) h = both _ _ (expr_suits cols s.0 s.1 h.0) (sets_suit cols sets h.1)
+
+rows_fit : (schema : Schema) (rows : List (List Value)) → AllByRecursion (λ row. fits_columns schema.cols row ≡ true) rows → list_all (fits schema) rows ≡ true
+rows_fit schema [] h = refl
+rows_fit schema (row ∷ rows) h = both _ _ h.0 (rows_fit schema rows h.1)
+
+stmt_plain : (schema : Schema) (stmt : Stmt) → StmtSuits schema.cols stmt → is_plain_stmt schema stmt ≡ true
+stmt_plain schema (Insert rows) h = rows_fit schema rows h
+stmt_plain schema (Update sets pred) h = sets_suit schema.cols sets h.0.0
+stmt_plain schema (Delete pred) h = refl
+stmt_plain schema (Select select) h = refl
+stmt_plain schema _ h = absurd h
+
+session_one : (k : ℕ) → k ≡ 1 → (k == 1) ≡ true
+session_one k e = rw e refl
+
+line_plain : (schema : Schema) (line : Line) → (line.session ≡ 1) × StmtSuits schema.cols line.stmt → is_plain_line schema line ≡ true
+line_plain schema line h = both _ _ (session_one line.session h.0) (stmt_plain schema line.stmt h.1)
+
+lines_plain : (schema : Schema) (lines : List Line) → LinesSuit schema.cols lines → list_all (is_plain_line schema) lines ≡ true
+lines_plain schema [] h = refl
+lines_plain schema (line ∷ lines) h = both _ _ (line_plain schema line h.0) (lines_plain schema lines h.1)
+
+pub plain_script : (script : Script) → IsBuiltScript script → IsPlainScript script
+plain_script script h = both _ _ (ap (λ (u : List (List ℕ)). length u == 0) h.uniques) (lines_plain script.schema script.lines h.lines)
