@@ -1,5 +1,6 @@
 -- An output that was read has the shape, and the kinds of statements and entries, that are judged.
 use Rattle.std.proofs.Common.{◌≡◌, ℕ, Bool, true, false, List, [], ◌∷◌, ◌++◌, length, map, filter, ◌&&◌, refl, ap, sym, ◌∙◌, subst, flat_map}
+use Rattle.std.proofs.lemmas.List.{length-map}
 use Rattle.std.specs.List.{AllByRecursion, list_all}
 use Rattle.s2_model.specs.declared.entries.Entry.{Entry}
 use Rattle.s2_model.specs.declared.entries.What.{What}
@@ -22,31 +23,33 @@ use Rattle.s2_legal.specs.Faults.{IsWhole}
 
 -- sessions and counts
 
-firsts_of_heads : (ts : List Transcript) → map (λ p. p.0) (map head_of ts) ≡ map (λ t. t.session) ts
+firsts_of_heads : (ts : List Transcript) → map (λ (p : ℕ × ℕ). p.0) (map head_of ts) ≡ map (λ t. t.session) ts
 firsts_of_heads [] = refl
 firsts_of_heads (t ∷ ts) = ap (λ (l : List ℕ). t.session ∷ l) (firsts_of_heads ts)
 
-firsts_of_counts : (lines : List Line) (ks : List ℕ) → map (λ p. p.0) (map (λ k. (k, length (filter (is_of_session k) lines))) ks) ≡ ks
+firsts_of_counts : (lines : List Line) (ks : List ℕ) → map (λ (p : ℕ × ℕ). p.0) (map (λ k. (k, length (filter (is_of_session k) lines))) ks) ≡ ks
 firsts_of_counts lines [] = refl
 firsts_of_counts lines (k ∷ ks) = ap (λ (l : List ℕ). k ∷ l) (firsts_of_counts lines ks)
 
-length_of_map : (lines : List Line) → length (map (λ l. l.stmt) lines) ≡ length lines
-length_of_map [] = refl
-length_of_map (l ∷ lines) = ap (λ n. 1 + n) (length_of_map lines)
+same_head : (p q : ℕ × ℕ) (ps qs : List (ℕ × ℕ)) → p ∷ ps ≡ q ∷ qs → p ≡ q
+same_head p q ps qs e = cc
+
+same_tail : (p q : ℕ × ℕ) (ps qs : List (ℕ × ℕ)) → p ∷ ps ≡ q ∷ qs → ps ≡ qs
+same_tail p q ps qs e = cc
 
 counts_match : (lines : List Line) (ts : List Transcript) (ks : List ℕ) → map head_of ts ≡ map (λ k. (k, length (filter (is_of_session k) lines))) ks
     → AllByRecursion (λ t. length t.said ≡ length (stmts_of t.session lines)) ts
 counts_match lines [] ks e = tt
 counts_match lines (t ∷ ts) [] e = absurd (cc)
 counts_match lines (t ∷ ts) (k ∷ ks) e =
-    let session : t.session ≡ k = cc in
-    let count : length t.said ≡ length (filter (is_of_session k) lines) = cc in
-    let rest : map head_of ts ≡ map (λ k. (k, length (filter (is_of_session k) lines))) ks = cc in
-    (count ∙ sym (ap (λ j. length (stmts_of j lines)) session ∙ length_of_map (filter (is_of_session k) lines)), counts_match lines ts ks rest)
+    let head : head_of t ≡ (k, length (filter (is_of_session k) lines)) = same_head _ _ _ _ e in
+    let session : t.session ≡ k = ap (λ (p : ℕ × ℕ). p.0) head in
+    let count : length t.said ≡ length (filter (is_of_session k) lines) = ap (λ (p : ℕ × ℕ). p.1) head in
+    (count ∙ sym (ap (λ j. length (stmts_of j lines)) session ∙ length-map (filter (is_of_session k) lines) (λ (l : Line). l.stmt)), counts_match lines ts ks (same_tail _ _ _ _ e))
 
 pub whole_output : (script : Script) (run : Outcome) → IsOutput script run → IsWhole script run
 whole_output script run h = record {
-  sessions_are = sym (firsts_of_heads run.transcripts) ∙ ap (λ (l : List (ℕ × ℕ)). map (λ p. p.0) l) h.sessions ∙ firsts_of_counts script.lines (sessions_in script.lines);
+  sessions_are = sym (firsts_of_heads run.transcripts) ∙ ap (λ (l : List (ℕ × ℕ)). map (λ (p : ℕ × ℕ). p.0) l) h.sessions ∙ firsts_of_counts script.lines (sessions_in script.lines);
   even = counts_match script.lines run.transcripts (sessions_in script.lines) h.sessions;
 }
 

@@ -4,7 +4,6 @@ ghost use Rattle.s2_resolve.specs.Suits.{IsBuiltScript};
 ghost use Rattle.s2_outread.specs.Outputs.{IsTextOf};
 ghost use Rattle.s2_check.specs.Checking.{IsChecked, IsAnswer};
 
-use crate::laws::outputs_are_whole;
 use crate::{Checked, split};
 use s2_legal::{LegalAnswer, legal};
 use s2_model::{Outcome, Script};
@@ -23,7 +22,6 @@ fn check_outcome(
     requires text { IsTextOf script.now output.now run.now }
     ensures { IfOk result (IsAnswer script.now output.now) }
 {
-    outputs_are_whole();
     match legal(alloc, script, run)? {
         LegalAnswer::Legal => Ok(Checked::Legal),
         LegalAnswer::Entry(entry) => Ok(Checked::Entry(entry)),
