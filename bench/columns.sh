@@ -116,6 +116,46 @@ fn sum_runs(lens: &RunLens<'_>, vals: &Entries<'_>, from: u32) -> i128 {
     sum
 }
 
+// The same sums at 64 bits, where a sum may wrap.
+#[inline(never)]
+fn sum_plain_64(numbers: &[i64], from: u32) -> i64 {
+    let mut sum = 0i64;
+    if from as usize > numbers.len() {
+        return sum;
+    }
+    for number in &numbers[from as usize..] {
+        sum = sum.wrapping_add(*number);
+    }
+    sum
+}
+
+#[inline(never)]
+fn sum_ints_64(ints: &PlainInt<'_>, from: u32) -> i64 {
+    let mut sum = 0i64;
+    for i in from..ints.len() {
+        sum = sum.wrapping_add(ints.at(i));
+    }
+    sum
+}
+
+#[inline(never)]
+fn sum_packed_64(ints: &Packed<'_>, from: u32) -> i64 {
+    let mut sum = 0i64;
+    for i in from..ints.len() {
+        sum = sum.wrapping_add(ints.at(i));
+    }
+    sum
+}
+
+// The sum of a body of plain or packed numbers at 64 bits.
+fn sum_body_64(column: &Column<'_>, from: u32) -> i64 {
+    match column.body() {
+        Body::Ints(ints) => sum_ints_64(ints, from),
+        Body::Packed(ints) => sum_packed_64(ints, from),
+        _ => 0,
+    }
+}
+
 // The sum by the parts of the body, as a scan goes.
 fn sum_body(column: &Column<'_>, from: u32) -> i128 {
     match column.body() {
@@ -205,14 +245,80 @@ fn sum_values(rt: &HostRuntime, kind: ColType, block: &[u8], from: u32) -> io::R
     Ok(sum)
 }
 
-// Reading once is in it.
-fn time_at(rt: &HostRuntime, kind: ColType, block: &[u8]) -> io::Result<f64> {
+#[inline(never)]
+fn sum_values_64(rt: &HostRuntime, kind: ColType, block: &[u8], from: u32) -> io::Result<i64> {
+    let Ok(column) = Column::read(kind, COUNT, block) else {
+        return Ok(0);
+    };
+    let mut sum = 0i64;
+    for i in from..COUNT {
+        let value = column.at(rt.alloc(), i)?;
+        sum = sum.wrapping_add(size_of(&value));
+    }
+    Ok(sum)
+}
+
+fn time_plain_64(rt: &HostRuntime, numbers: &[i64]) -> io::Result<f64> {
+    let start = rt.thread_cpu_time()?;
+    let mut sum = 0i64;
+    for round in 0..ROUNDS {
+        sum = sum.wrapping_add(sum_plain_64(numbers, round % 64));
+    }
+    let time = per_value(start, rt, ROUNDS)?;
+    println!(rt; "  ({sum})")?;
+    Ok(time)
+}
+
+fn time_body_64(rt: &HostRuntime, column: &Column<'_>) -> io::Result<f64> {
+    let start = rt.thread_cpu_time()?;
+    let mut sum = 0i64;
+    for round in 0..ROUNDS {
+        sum = sum.wrapping_add(sum_body_64(column, round % 64));
+    }
+    let time = per_value(start, rt, ROUNDS)?;
+    println!(rt; "  ({sum})")?;
+    Ok(time)
+}
+
+fn time_at_64(rt: &HostRuntime, kind: ColType, block: &[u8]) -> io::Result<f64> {
+    let start = rt.thread_cpu_time()?;
+    let mut sum = 0i64;
+    for round in 0..ROUNDS {
+        sum = sum.wrapping_add(sum_values_64(rt, kind, block, round % 64)?);
+    }
+    let time = per_value(start, rt, ROUNDS)?;
+    println!(rt; "  ({sum})")?;
+    Ok(time)
+}
+
+// The sums of numbers at 64 bits: the plain array, the body where it is of numbers, and through `at`.
+fn measure_64(rt: &HostRuntime, name: &str, numbers: &[i64], vals: &[Value]) -> io::Result<()> {
+    if vals.is_empty() || vals.len() > 8192 || !are_of(ColType::Int, vals) {
+        return Ok(());
+    }
+    let block = write_column(rt.alloc(), ColType::Int, vals)?;
+    let Ok(column) = Column::read(ColType::Int, COUNT, block.as_slice()) else {
+        return Ok(());
+    };
+    let plain = time_plain_64(rt, numbers)?;
+    let body = time_body_64(rt, &column)?;
+    let at = time_at_64(rt, ColType::Int, block.as_slice())?;
+    println!(rt; "{name}, sums of 64 bits: plain array {plain:.2}, by the body {body:.2}, through at {at:.2}")?;
+    Ok(())
+}
+
+// Reading once is in it. Runs and texts take long.
+fn time_at(rt: &HostRuntime, column: &Column<'_>, kind: ColType, block: &[u8]) -> io::Result<f64> {
+    let rounds = match column.body() {
+        Body::Ints(_) | Body::Packed(_) => ROUNDS,
+        _ => 10,
+    };
     let start = rt.thread_cpu_time()?;
     let mut sum = 0i128;
-    for round in 0..10u32 {
-        sum = sum.wrapping_add(sum_values(rt, kind, block, round)?);
+    for round in 0..rounds {
+        sum = sum.wrapping_add(sum_values(rt, kind, block, round % 64)?);
     }
-    let time = per_value(start, rt, 10)?;
+    let time = per_value(start, rt, rounds)?;
     println!(rt; "  ({sum})")?;
     Ok(time)
 }
@@ -228,7 +334,7 @@ fn measure(rt: &HostRuntime, name: &str, kind: ColType, vals: &[Value]) -> io::R
         return Ok(());
     };
     let scan = time_scan(rt, &column)?;
-    let at = time_at(rt, kind, block.as_slice())?;
+    let at = time_at(rt, &column, kind, block.as_slice())?;
     println!(rt; "{name}: {} bytes, write {write:.2}, read {read:.2}, sum by the body {scan:.2}, sum through at {at:.2}", block.len())?;
     Ok(())
 }
@@ -253,7 +359,11 @@ fn measure_ints(rt: &HostRuntime, name: &str, form: u32) -> io::Result<()> {
     }
     let plain = time_plain(rt, numbers.as_slice())?;
     println!(rt; "plain array: sum {plain:.2}")?;
-    measure(rt, name, ColType::Int, vals.as_slice())
+    measure(rt, name, ColType::Int, vals.as_slice())?;
+    if form < 2 {
+        measure_64(rt, name, numbers.as_slice(), vals.as_slice())?;
+    }
+    Ok(())
 }
 
 fn measure_texts(rt: &HostRuntime) -> io::Result<()> {
