@@ -64,12 +64,15 @@ fn run(
     Ok(s2table(alloc, words.as_slice(), &mut src, sink))
 }
 
+const LITERAL_LONG: &[u8] =
+    b"CREATE TABLE t (a TEXT);\n1: INSERT INTO t VALUES ('xxxxxxxxxxxxxxxxxxxxxxxxxxxxxxxxxxxxxxxxxxxxxxxxxxxxxxxxxxxxxxxxxxxxxxxxxxxxxxxxxxxxxxxxxxxxxxxxxxxxxxxxxxxxxxxxxxxxxxxxxxxxxxxxxxxxxxxxxxxxxxxxxxxxxxxxxxxxxxxxxxxxxxxxxxxxxxxxxxxxxxxxxxxxxxxxxxxxxxxxxxxxxxxxxxxxxxxxxxxxxxxxxxxxxxxxxxxxxxxxxxxxxxxxxxxxxxxx');\n";
+
 const DRIVE: &[&str] = &["--mode", "drive"];
 
 #[test]
 fn runs_end_so(rt: HostRuntime) -> Result<(), Fail> {
     let alloc = rt.alloc();
-    let cases: [(&[&str], &[u8], &[u64], &[u64], u8, &[u8]); 12] = [
+    let cases: [(&[&str], &[u8], &[u64], &[u64], u8, &[u8]); 13] = [
         (&[], SCRIPT, &[], &[], 0, OUTPUT),
         (DRIVE, SCRIPT, &[], &[], 0, OUTPUT),
         (DRIVE, EXTREMES, &[], &[], 0, EXTREMES_OUTPUT),
@@ -83,6 +86,14 @@ fn runs_end_so(rt: HostRuntime) -> Result<(), Fail> {
             &[],
             3,
             b"script error: line 1: Misplaced\n",
+        ),
+        (
+            DRIVE,
+            LITERAL_LONG,
+            &[],
+            &[],
+            3,
+            b"script error: line 2: LiteralLong\n",
         ),
         (DRIVE, SCRIPT, &[1], &[], 4, b"source fault\n"),
         (DRIVE, SCRIPT, &[2], &[], 4, b"source fault\n"),
