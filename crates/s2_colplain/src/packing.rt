@@ -55,6 +55,7 @@ fn last_word(bytes: &[u8]) -> u128
 }
 
 // A field by the nine bytes that it stands in, of which the last may lack some.
+#[cold]
 #[inline(never)]
 fn wide_field(bytes: &[u8], width: u32, i: u32) -> u64
     requires narrow { width ≤ 63 }
