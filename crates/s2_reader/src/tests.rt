@@ -1,6 +1,7 @@
 //! A script of many forms, and scripts with one fault each.
 use crate::{ScriptErr, ScriptFault, ScriptKind, read_script};
 use s2_model::Script;
+use std::alloc::Global;
 use std::test::Fail;
 
 const SCRIPT: &str =
@@ -25,17 +26,41 @@ fn told(found: Result<Script, ScriptFault>) -> Option<(u64, ScriptKind)> {
     }
 }
 
+/// Stands for 256 letters in the scripts below.
+const LONG: u8 = b'@';
+
+fn written(alloc: Global, script: &[u8]) -> Result<Vec<u8>, Fail> {
+    let mut bytes = Vec::new(alloc);
+    for b in script {
+        let times = if *b == LONG { 256 } else { 1 };
+        for _ in 0..times {
+            bytes.push(if *b == LONG { b'x' } else { *b })?;
+        }
+    }
+    Ok(bytes)
+}
+
+/// One fault each, in the order of the kinds.
 const BAD: [(&[u8], u64, ScriptKind); 13] = [
-    (b"\n\xff$", 2, ScriptKind::NotUtf8),
-    (b"CREATE $ t", 1, ScriptKind::BadToken),
+    (b"\n1: SELECT \xff", 2, ScriptKind::NotUtf8),
+    (
+        b"CREATE TABLE t (a INT)\n1: COMMIT '",
+        2,
+        ScriptKind::BadToken,
+    ),
     (b"CREATE t", 1, ScriptKind::Syntax),
     (
         b"OPTION cache 9223372036854775808",
         1,
         ScriptKind::LiteralRange,
     ),
+    (
+        b"CREATE TABLE t (a TEXT)\n1: INSERT INTO t VALUES ('@')",
+        2,
+        ScriptKind::LiteralLong,
+    ),
     (b"", 1, ScriptKind::Misplaced),
-    (b"OPTION depth 1", 1, ScriptKind::OptionValue),
+    (b"OPTION fanout 1", 1, ScriptKind::OptionValue),
     (b"CREATE TABLE t (a INT)\n17: COMMIT", 2, ScriptKind::Limit),
     (
         b"CREATE TABLE t (a INT)\n1: DELETE FROM u",
@@ -58,11 +83,6 @@ const BAD: [(&[u8], u64, ScriptKind); 13] = [
         ScriptKind::JobOrder,
     ),
     (
-        b"CREATE TABLE t (a INT)\n1: COMMIT",
-        2,
-        ScriptKind::NotBuilt,
-    ),
-    (
         b"CREATE TABLE t (a INT)\n2: DELETE FROM t",
         2,
         ScriptKind::NotBuilt,
@@ -71,9 +91,68 @@ const BAD: [(&[u8], u64, ScriptKind); 13] = [
 
 #[test]
 fn scripts_with_a_fault(rt: HostRuntime) -> Result<(), Fail> {
-    for (bytes, line, kind) in BAD {
-        let found = told(read_script(rt.alloc(), bytes));
-        assert_eq!(rt; found, Some((line, kind)), "at {bytes:?}");
+    for (script, line, kind) in BAD {
+        let bytes = written(rt.alloc(), script)?;
+        let found = told(read_script(rt.alloc(), &bytes));
+        assert_eq!(rt; found, Some((line, kind)), "at {script:?}");
+    }
+    Ok(())
+}
+
+/// A line to which a kind and the next one apply: the lesser is told. There is none for a value of the wrong type and a step
+/// of a job, since the lines of jobs have no values.
+const BOTH: [(&[u8], u64, ScriptKind); 11] = [
+    (b"\xff", 1, ScriptKind::NotUtf8),
+    (b"CREATE CREATE $", 1, ScriptKind::BadToken),
+    (
+        b"OPTION cache cache 9223372036854775808",
+        1,
+        ScriptKind::Syntax,
+    ),
+    (
+        b"CREATE TABLE t (a INT, b TEXT)\n1: INSERT INTO t VALUES (-9223372036854775809, '@')",
+        2,
+        ScriptKind::LiteralRange,
+    ),
+    (b"1: INSERT INTO t VALUES ('@')", 1, ScriptKind::LiteralLong),
+    (
+        b"CREATE TABLE t (a INT)\nOPTION depth 1",
+        2,
+        ScriptKind::Misplaced,
+    ),
+    (
+        b"OPTION a23456789012345678901234567890123 1",
+        1,
+        ScriptKind::OptionValue,
+    ),
+    (
+        b"CREATE TABLE t (a INT)\n0: DELETE FROM u",
+        2,
+        ScriptKind::Limit,
+    ),
+    (
+        b"CREATE TABLE t (a INT)\n1: UPDATE t SET b = 1, b = 2",
+        2,
+        ScriptKind::UnknownName,
+    ),
+    (
+        b"CREATE TABLE t (a INT)\n1: UPDATE t SET a = 'x', a = 'x'",
+        2,
+        ScriptKind::RepeatedName,
+    ),
+    (
+        b"CREATE TABLE t (a INT)\n1: MERGE END",
+        2,
+        ScriptKind::JobOrder,
+    ),
+];
+
+#[test]
+fn lines_with_two_faults(rt: HostRuntime) -> Result<(), Fail> {
+    for (script, line, kind) in BOTH {
+        let bytes = written(rt.alloc(), script)?;
+        let found = told(read_script(rt.alloc(), &bytes));
+        assert_eq!(rt; found, Some((line, kind)), "at {script:?}");
     }
     Ok(())
 }
