@@ -6,4 +6,5 @@ pub mod Fitting
 pub mod Fits
 pub mod Runs
 pub mod Steps
+pub mod Tables
 pub mod PlainLines

@@ -18,8 +18,8 @@ use Rattle.s2_model.specs.declared.replies.Refusal.{Refusal}
 use Rattle.s2_model.specs.declared.replies.Refusal.TheVariants as refusal
 use Rattle.s2_model.specs.declared.scripts.Line.{Line}
 use Rattle.s2_model.specs.declared.outcomes.Said.{Said}
-use Rattle.s2_model.specs.Table.{Table, RowOf, apply, touches, number_of}
-use Rattle.s2_model.specs.History.{History, ◌▷◌, pending, pin_of, is_running, greatest_in, next, view, extended}
+use Rattle.s2_model.specs.Table.{Table, RowOf, apply, rises_above, touches, number_of}
+use Rattle.s2_model.specs.History.{History, ◌▷◌, state, pending, pin_of, is_running, greatest_in, next, view, extended}
 use Rattle.s2_model.specs.Held.{holds, sessions}
 use Rattle.s2_model.specs.Placement.{placement}
 use Rattle.s2_model.specs.Answer.{answer, kept}
@@ -30,8 +30,9 @@ use Rattle.s2_model.proofs.Tables.{rises-apply}
 use Rattle.s2_model.proofs.Inserts.{length-puts_from}
 use Rattle.s2_model.proofs.Lists.{Each, each_weaker, each-map, each-filter}
 use Rattle.s2_plain.specs.declared.plain.Plain.{Plain}
-use Rattle.s2_plain.specs.Plain.{IsPlain, Does, Runs, ruled_by, write_ruling, ruling, changes_in}
+use Rattle.s2_plain.specs.Plain.{table_of, IsPlain, Catches, Does, Runs, ruled_by, write_ruling, ruling, changes_in}
 use Rattle.s2_plain.specs.Script.{Answered}
+use Rattle.s2_plain.proofs.Tables.{all_held, caught_up}
 use Rattle.s2_plain.proofs.PlainLines.{IsPlainStmt}
 use Rattle.s2_model.specs.Rows.{matches}
 use Rattle.s2_model.proofs.WriteStep.{max_stays}
@@ -86,12 +87,12 @@ refusals_are schema H stmt rows cs keyless actors =
     ∙ ap (λ o. option_or (too_many cs) (option_or o (option_or (out_of_range stmt (matched stmt rows)) None))) (not_locked H (matched stmt rows) actors)
     ∙ ap (option_or (too_many cs)) (or_none (out_of_range stmt (matched stmt rows)))
 
-view_is : (p : Plain) → IsPlain p → view p.log 1 ≡ p.rows.items
+view_is : (p : Plain) → IsPlain p → view p.log 1 ≡ table_of p
 view_is p plain = rw (plain.pin, plain.idle) plain.content
 
 pub write_is : (schema : Schema) (p : Plain) (stmt : Stmt) → IsPlain p → schema.uniques ≡ [] → write_verdict schema p.log 1 stmt ≡ write_ruling p stmt
 write_is schema p stmt plain keyless =
-    let rows = p.rows.items in
+    let rows = table_of p in
     let cs = changes stmt rows (suc p.last) in
     let H = p.log in
     let whole = write_or (refusal_of schema H 1 stmt (view H 1) (changes stmt (view H 1) (next H))) (moves H (matched stmt (view H 1))) (is_running H 1) (changes stmt (view H 1) (next H)) in
@@ -112,12 +113,30 @@ ruling_is schema p _ plain keyless form = absurd form
 
 -- the engine after a statement
 
-pub same_plain : (p p' : Plain) → p'.log ≡ p.log → p'.rows.items ≡ p.rows.items → p'.last ≡ p.last → IsPlain p → IsPlain p'
-same_plain p p' log rows last plain = record {
-  content = rw (log, rows) plain.content;
+pub empty_plain : (p : Plain) → p.log ≡ [] → p.rows.items ≡ [] → p.held ≡ 0 → p.last ≡ 0 → IsPlain p
+empty_plain p log rows held last =
+    let none : table_of p ≡ [] = all_held p (held ∙ sym (ap length log)) ∙ rows in
+    record {
+      content = ap state log ∙ sym none;
+      held = omega (arith, held);
+      number = rw (log, last) refl;
+      rising = ap (rises_above 0) none;
+      below = subst (Each (λ q. q.0 ≤ p.last)) (sym none) tt;
+      few = omega (arith, last);
+      idle = rw log refl;
+      pin = rw log refl;
+      stopped = rw log refl;
+      actors = rw log refl;
+      bare = rw log refl;
+    }
+
+pub same_plain : (p p' : Plain) → p'.log ≡ p.log → table_of p' ≡ table_of p → (p.held ≤ length p.log → p'.held ≤ length p'.log) → p'.last ≡ p.last → IsPlain p → IsPlain p'
+same_plain p p' log rows held last plain = record {
+  held = held plain.held;
+  content = ap state log ∙ plain.content ∙ sym rows;
   number = rw (log, last) plain.number;
-  rising = rw rows plain.rising;
-  below = subst (λ n. Each (λ q. q.0 ≤ n) p'.rows.items) (sym last) (subst (Each (λ q. q.0 ≤ p.last)) (sym rows) plain.below);
+  rising = ap (rises_above 0) rows ∙ plain.rising;
+  below = subst (λ n. Each (λ q. q.0 ≤ n) (table_of p')) (sym last) (subst (Each (λ q. q.0 ≤ p.last)) (sym rows) plain.below);
   few = omega (arith, plain.few, last, ap length log);
   idle = rw log plain.idle;
   pin = rw log plain.pin;
@@ -125,6 +144,9 @@ same_plain p p' log rows last plain = record {
   actors = rw log plain.actors;
   bare = rw log plain.bare;
 }
+
+pub caught_plain : (p q : Plain) → Catches p q → IsPlain p → IsPlain q
+caught_plain p q catches plain = same_plain p q catches.log_is (caught_up p q catches) (λ h. omega (arith, catches.held_is)) catches.last_is plain
 
 touched_from : (cs : List Change) (n : ℕ) → Each (λ c. 1 ≤ number_of c) cs → touches cs n ≡ true → 1 ≤ n
 touched_from [] n each e = absurd (false≢true e)
@@ -144,15 +166,16 @@ pub record MayMake (last : ℕ) (cs : List Change) : Type 0 where
   pub few : length cs ≤ 65536
 
 pub more_plain : (p p' : Plain) (cs : List Change) → p'.log ≡ p.log ▷ record { actor = 1; what = what.Write cs } ▷ record { actor = 1; what = what.Commit }
-    → p'.rows.items ≡ apply p.rows.items cs → p'.last ≡ greatest_in cs p.last → MayMake p.last cs → IsPlain p → IsPlain p'
-more_plain p p' cs log rows last may plain = record {
-  content = rw (log, rows, plain.idle, plain.content) refl;
+    → table_of p' ≡ apply (table_of p) cs → (p.held ≤ length p.log → p'.held ≤ length p'.log) → p'.last ≡ greatest_in cs p.last → MayMake p.last cs → IsPlain p → IsPlain p'
+more_plain p p' cs log rows held last may plain = record {
+  held = held plain.held;
+  content = ap state log ∙ rw plain.idle (ap (λ t. apply t cs) plain.content) ∙ sym rows;
   number = rw (log, last, plain.number) refl;
-  rising = rw rows (rises-apply p.rows.items cs (λ n t. touched_from cs n may.from t) plain.rising);
-  below = subst (λ n. Each (λ q. q.0 ≤ n) p'.rows.items) (sym last)
+  rising = ap (rises_above 0) rows ∙ rises-apply (table_of p) cs (λ n t. touched_from cs n may.from t) plain.rising;
+  below = subst (λ n. Each (λ q. q.0 ≤ n) (table_of p')) (sym last)
       (subst (Each (λ q. q.0 ≤ greatest_in cs p.last)) (sym rows)
-      (each-apply (λ q. q.0 ≤ greatest_in cs p.last) cs p.rows.items
-      (each_weaker (λ q. q.0 ≤ p.last) (λ q. q.0 ≤ greatest_in cs p.last) (λ q h. omega (arith, h, max_stays cs p.last)) p.rows.items plain.below)
+      (each-apply (λ q. q.0 ≤ greatest_in cs p.last) cs (table_of p)
+      (each_weaker (λ q. q.0 ≤ p.last) (λ q. q.0 ≤ greatest_in cs p.last) (λ q h. omega (arith, h, max_stays cs p.last)) (table_of p) plain.below)
       (puts_by cs p.last)));
   few = omega (arith, plain.few, last, ap length log, may.most, may.few);
   idle = rw log refl;
@@ -182,19 +205,19 @@ made_of_old p cs low high none = record {
   few = within_from cs none;
 }
 
-pub may_make : (schema : Schema) (p : Plain) (stmt : Stmt) → IsPlain p → IsPlainStmt schema stmt → too_many (changes stmt p.rows.items (suc p.last)) ≡ None
-    → MayMake p.last (changes stmt p.rows.items (suc p.last))
+pub may_make : (schema : Schema) (p : Plain) (stmt : Stmt) → IsPlain p → IsPlainStmt schema stmt → too_many (changes stmt (table_of p) (suc p.last)) ≡ None
+    → MayMake p.last (changes stmt (table_of p) (suc p.last))
 may_make schema p (Insert xs) plain form none = record {
   from = puts_start p.last xs;
   most = omega (arith, greatest_puts p.last xs, length-puts_from (suc p.last) xs);
   few = within_from (puts_from (suc p.last) xs) none;
 }
 may_make schema p (Update sets pred) plain form none =
-    made_of_old p (map (updated sets) (kept pred p.rows.items)) (updates_above sets pred 0 p.rows.items plain.rising)
-    (each-map (λ q. q.0 ≤ p.last) (λ c. number_of c ≤ p.last) (updated sets) (λ q h. h) (kept pred p.rows.items) (each-filter (λ q. q.0 ≤ p.last) (λ q. matches pred q.1) p.rows.items plain.below)) none
+    made_of_old p (map (updated sets) (kept pred (table_of p))) (updates_above sets pred 0 (table_of p) plain.rising)
+    (each-map (λ q. q.0 ≤ p.last) (λ c. number_of c ≤ p.last) (updated sets) (λ q h. h) (kept pred (table_of p)) (each-filter (λ q. q.0 ≤ p.last) (λ q. matches pred q.1) (table_of p) plain.below)) none
 may_make schema p (Delete pred) plain form none =
-    made_of_old p (map (λ q. Drop q.0) (kept pred p.rows.items)) (drops_above pred 0 p.rows.items plain.rising)
-    (each-map (λ q. q.0 ≤ p.last) (λ c. number_of c ≤ p.last) (λ q. Drop q.0) (λ q h. h) (kept pred p.rows.items) (each-filter (λ q. q.0 ≤ p.last) (λ q. matches pred q.1) p.rows.items plain.below)) none
+    made_of_old p (map (λ q. Drop q.0) (kept pred (table_of p))) (drops_above pred 0 (table_of p) plain.rising)
+    (each-map (λ q. q.0 ≤ p.last) (λ c. number_of c ≤ p.last) (λ q. Drop q.0) (λ q h. h) (kept pred (table_of p)) (each-filter (λ q. q.0 ≤ p.last) (λ q. matches pred q.1) (table_of p) plain.below)) none
 may_make schema p (Select select) plain form none = record { from = tt; most = omega arith; few = omega arith }
 may_make schema p _ plain form none = absurd form
 
@@ -216,12 +239,12 @@ full_makes : (full : Bool) (r : Ruled) (cs : List Change) → Makes cs r.makes �
 full_makes true r cs m = inl refl
 full_makes false r cs m = m
 
-write_makes : (p : Plain) (stmt : Stmt) → Makes (changes stmt p.rows.items (suc p.last)) (write_ruling p stmt).makes
+write_makes : (p : Plain) (stmt : Stmt) → Makes (changes stmt (table_of p) (suc p.last)) (write_ruling p stmt).makes
 write_makes p stmt =
-    let cs = changes stmt p.rows.items (suc p.last) in
-    full_makes (nat_lt last_length (length p.log)) (ruled_by p.last p.rows.items stmt) cs (or_makes _ (out_of_range stmt (matched stmt p.rows.items)) cs refl)
+    let cs = changes stmt (table_of p) (suc p.last) in
+    full_makes (nat_lt last_length (length p.log)) (ruled_by p.last (table_of p) stmt) cs (or_makes _ (out_of_range stmt (matched stmt (table_of p))) cs refl)
 
-pub ruling_makes : (schema : Schema) (p : Plain) (stmt : Stmt) → IsPlainStmt schema stmt → Makes (changes stmt p.rows.items (suc p.last)) (ruling p stmt).makes
+pub ruling_makes : (schema : Schema) (p : Plain) (stmt : Stmt) → IsPlainStmt schema stmt → Makes (changes stmt (table_of p) (suc p.last)) (ruling p stmt).makes
 ruling_makes schema p (Select select) form = inl refl
 ruling_makes schema p (Insert xs) form = write_makes p (Insert xs)
 ruling_makes schema p (Update sets pred) form = write_makes p (Update sets pred)
@@ -230,13 +253,13 @@ ruling_makes schema p _ form = absurd form
 
 pub plain_after : (schema : Schema) (p p' : Plain) (stmt : Stmt) (reply : Reply) → IsPlain p → IsPlainStmt schema stmt → Does (ruling p stmt) p p' reply → IsPlain p'
 plain_after schema p p' stmt reply plain form does =
-    let cs = changes stmt p.rows.items (suc p.last) in
+    let cs = changes stmt (table_of p) (suc p.last) in
     ⊎_elim
     (λ (none : (ruling p stmt).makes ≡ []). same_plain p p' (does.log_is ∙ ap (λ es. extended 1 es p.log) none)
-    (does.rows_are ∙ ap (λ es. apply p.rows.items (changes_in es)) none) (does.last_is ∙ ap (λ es. greatest_in (changes_in es) p.last) none) plain)
+    (does.rows_are ∙ ap (λ es. apply (table_of p) (changes_in es)) none) does.held_is (does.last_is ∙ ap (λ es. greatest_in (changes_in es) p.last) none) plain)
     (λ (some : ((ruling p stmt).makes ≡ what.Write cs ∷ what.Commit ∷ []) × (too_many cs ≡ None)).
     more_plain p p' cs (does.log_is ∙ ap (λ es. extended 1 es p.log) some.0)
-    (does.rows_are ∙ ap (λ es. apply p.rows.items (changes_in es)) some.0) (does.last_is ∙ ap (λ es. greatest_in (changes_in es) p.last) some.0)
+    (does.rows_are ∙ ap (λ es. apply (table_of p) (changes_in es)) some.0) does.held_is (does.last_is ∙ ap (λ es. greatest_in (changes_in es) p.last) some.0)
     (may_make schema p stmt plain form some.1) plain)
     (ruling_makes schema p stmt form)
 

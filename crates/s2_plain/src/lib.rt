@@ -5,6 +5,7 @@ mod answers;
 mod checks;
 mod drive;
 mod found;
+mod lines;
 mod plain;
 #[cfg(test)]
 mod tests;

@@ -1,6 +1,6 @@
 //! The plain engine: one table, and the history of what made it.
 use crate::answers::answer;
-use crate::writes::{add_all, drop_all, plan_delete, plan_insert, plan_update, update_all};
+use crate::writes::{add_entries, drop_all, plan_delete, plan_insert, plan_update, update_all};
 use s2_model::{
     ChangeList, Condition, Entry, Log, Refusal, Reply, RowList, Said, Select, SetList, Stmt, What,
 };
@@ -13,31 +13,37 @@ const LAST_LENGTH: usize = 4_194_240;
 /// The actor of the one session.
 const SESSION: u8 = 1;
 
-/// The last row number that was given, the rows by rising number, and the history. Each row stands in the table and in the history.
+/// The last row number that was given, the rows at hand by rising number, how many of the history's first entries they hold, and the history.
+/// The rows at hand catch up with the history where a statement reads them: an INSERT reads none, and a table that is only filled stands in memory once.
 #[derive(Drop)]
 pub struct Plain {
     pub last: u64,
     pub rows: Vec<(u64, Row)>,
+    pub held: usize,
     pub log: Log,
 }
 
 impl Plain {
     ghost use Rattle.std.specs.Prelude.{◌≡◌, ◌<◌, ◌≤◌, ◌^◌, [], IfOk, length};
+    ghost use Rattle.s2_model.specs.Verdict.{last_length, says};
     ghost use Rattle.s2_model.specs.declared.statements.Stmt.TheVariants as stmt;
     ghost use Rattle.s2_model.specs.History.{◌▷◌};
     ghost use Rattle.s2_model.specs.Answer.{answer};
-    ghost use Rattle.s2_plain.specs.Plain.{IsPlain, Settles, Does, Runs, write_ruling, ruling};
+    ghost use Rattle.s2_plain.specs.Plain.{table_of, IsPlain, Settles, SettlesAll, Catches, Does, Runs, write_ruling, ruling};
 
-    /// No rows and no entries.
-    pub fn new(alloc: Global) -> Plain
-        ensures plain { IsPlain result }
-        ensures empty { result.log ≡ [] }
+    /// No rows and no entries, with room for so many entries.
+    pub fn new(alloc: Global, entries: usize) -> Result<Plain, Memory>
+        ensures plain { IfOk result IsPlain }
+        ensures empty { IfOk result (λ p. p.log ≡ []) }
     {
-        Plain {
+        let mut log = Log::new(alloc);
+        log.reserve(entries)?;
+        Ok(Plain {
             last: 0,
             rows: Vec::new(alloc),
-            log: Log::new(alloc),
-        }
+            held: 0,
+            log,
+        })
     }
 
     /// Puts the changes to the history, unless there are none.
@@ -54,12 +60,33 @@ impl Plain {
     }
 
     fn append(&mut self, what: What) -> Result<(), Memory>
-        ensures { IfOk result (λ _. (self.new.log ≡ self.old.log ▷ record { actor = 1; what = what }) × (self.new.rows.items ≡ self.old.rows.items) × (self.new.last ≡ self.old.last)) }
+        ensures { IfOk result (λ _. (self.new.log ≡ self.old.log ▷ record { actor = 1; what = what }) × (self.new.rows.items ≡ self.old.rows.items) × (self.new.held ≡ self.old.held) × (self.new.last ≡ self.old.last)) }
     {
         self.log.append(Entry {
             actor: SESSION,
             what,
         })
+    }
+
+    /// Puts the changes of which the rows at hand were made to the history.
+    fn settle_all(&mut self, changes: ChangeList) -> Result<Reply, Memory>
+        requires { length changes ≤ 65536 }
+        ensures { IfOk result (λ reply. SettlesAll changes self.old self.new reply) }
+    {
+        let reply = self.settle(changes)?;
+        self.held = self.log.len();
+        Ok(reply)
+    }
+
+    /// Puts what later entries put to the rows at hand.
+    fn catch_up(&mut self) -> Result<(), Memory>
+        requires { self.old.held ≤ length self.old.log }
+        ensures { IfOk result (λ _. Catches self.old self.new) }
+    {
+        let later = &self.log.as_slice()[self.held..];
+        add_entries(&mut self.rows, later)?;
+        self.held = self.log.len();
+        Ok(())
     }
 
     fn insert(&mut self, alloc: Global, rows: RowList) -> Result<Reply, Memory>
@@ -71,9 +98,30 @@ impl Plain {
         }
         match plan_insert(alloc, rows, self.last)? {
             Ok(changes) => {
-                add_all(&mut self.rows, changes.as_slice())?;
-                self.last += changes.len() as u64;
-                self.settle(changes)
+                let last = self.last + changes.len() as u64;
+                let reply = self.settle(changes)?;
+                self.last = last;
+                Ok(reply)
+            }
+            Err(refusal) => Ok(Reply::Refused(refusal)),
+        }
+    }
+
+    fn update_rows(
+        &mut self,
+        alloc: Global,
+        sets: &SetList,
+        pred: &Condition,
+    ) -> Result<Reply, Memory>
+        requires plain { IsPlain self.old }
+        requires held { self.old.held ≡ length self.old.log }
+        requires room { length self.old.log ≤ last_length }
+        ensures { IfOk result (λ reply. Does (write_ruling self.old (stmt.Update sets.now pred.now)) self.old self.new reply) }
+    {
+        match plan_update(alloc, sets, pred, &self.rows)? {
+            Ok(changes) => {
+                update_all(alloc, sets, pred, self.rows.as_mut_slice())?;
+                self.settle_all(changes)
             }
             Err(refusal) => Ok(Reply::Refused(refusal)),
         }
@@ -86,10 +134,20 @@ impl Plain {
         if self.log.len() > LAST_LENGTH {
             return Ok(Reply::Refused(Refusal::LogFull));
         }
-        match plan_update(alloc, sets, pred, &self.rows)? {
+        self.catch_up()?;
+        self.update_rows(alloc, sets, pred)
+    }
+
+    fn delete_rows(&mut self, alloc: Global, pred: &Condition) -> Result<Reply, Memory>
+        requires plain { IsPlain self.old }
+        requires held { self.old.held ≡ length self.old.log }
+        requires room { length self.old.log ≤ last_length }
+        ensures { IfOk result (λ reply. Does (write_ruling self.old (stmt.Delete pred.now)) self.old self.new reply) }
+    {
+        match plan_delete(alloc, pred, &self.rows)? {
             Ok(changes) => {
-                update_all(alloc, sets, pred, self.rows.as_mut_slice())?;
-                self.settle(changes)
+                drop_all(pred, &mut self.rows);
+                self.settle_all(changes)
             }
             Err(refusal) => Ok(Reply::Refused(refusal)),
         }
@@ -102,19 +160,15 @@ impl Plain {
         if self.log.len() > LAST_LENGTH {
             return Ok(Reply::Refused(Refusal::LogFull));
         }
-        match plan_delete(alloc, pred, &self.rows)? {
-            Ok(changes) => {
-                drop_all(pred, &mut self.rows);
-                self.settle(changes)
-            }
-            Err(refusal) => Ok(Reply::Refused(refusal)),
-        }
+        self.catch_up()?;
+        self.delete_rows(alloc, pred)
     }
 
-    fn select(&self, alloc: Global, select: &Select) -> Result<Reply, Memory>
-        requires { IsPlain self.now }
-        ensures { IfOk result (λ reply. reply ≡ Reply.Rows (answer select.now self.now.rows.items)) }
+    fn select(&mut self, alloc: Global, select: &Select) -> Result<Reply, Memory>
+        requires { IsPlain self.old }
+        ensures { IfOk result (λ reply. Does (says (Reply.Rows (answer select.now (table_of self.old)))) self.old self.new reply) }
     {
+        self.catch_up()?;
         Ok(Reply::Rows(answer(alloc, select, &self.rows)?))
     }
 

@@ -3,10 +3,13 @@ ghost use Rattle.std.specs.Prelude.{◌≡◌, ◌<◌, ◌+◌, ◌^◌, ◌++�
 ghost use Rattle.s2_model.specs.Rows.{matches, after};
 ghost use Rattle.s2_model.specs.Verdict.{puts_from, updated};
 ghost use Rattle.s2_plain.specs.Found.{seen};
+ghost use Rattle.s2_plain.specs.Plain.{puts_of, put_in};
 ghost use Rattle.s2_plain.specs.Writes.{put_of, updated_at, Updates, PlansInsert, PlansUpdate, PlansDelete};
 
 use crate::found::matching;
-use s2_model::{Change, ChangeList, Condition, Refusal, RowList, SetList, after, matches};
+use s2_model::{
+    Change, ChangeList, Condition, Entry, Refusal, RowList, SetList, What, after, matches,
+};
 use s2_value::{Duplicate, Memory, Row, Seq};
 use std::alloc::Global;
 
@@ -38,11 +41,30 @@ fn add(rows: &mut Vec<(u64, Row)>, change: &Change) -> Result<(), Memory>
 }
 
 /// Copies of the rows that are put, at the table's end.
-pub fn add_all(rows: &mut Vec<(u64, Row)>, changes: &[Change]) -> Result<(), Memory>
+fn add_all(rows: &mut Vec<(u64, Row)>, changes: &[Change]) -> Result<(), Memory>
     ensures { OnOk result (rows.new.items ≡ rows.old.items ++ filter_map put_of changes.now) }
 {
     for change in changes {
         add(rows, change)?;
+    }
+    Ok(())
+}
+
+fn add_entry(rows: &mut Vec<(u64, Row)>, entry: &Entry) -> Result<(), Memory>
+    ensures { OnOk result (rows.new.items ≡ rows.old.items ++ puts_of entry.now.what) }
+{
+    match &entry.what {
+        What::Write(changes) => add_all(rows, changes.as_slice()),
+        _ => Ok(()),
+    }
+}
+
+/// Copies of the rows that the entries put, at the table's end.
+pub fn add_entries(rows: &mut Vec<(u64, Row)>, entries: &[Entry]) -> Result<(), Memory>
+    ensures { OnOk result (rows.new.items ≡ rows.old.items ++ put_in entries.now) }
+{
+    for entry in entries {
+        add_entry(rows, entry)?;
     }
     Ok(())
 }

@@ -88,7 +88,7 @@ fn schema(alloc: Global) -> anyhow::Result<Schema> {
     })
 }
 
-fn number(alloc: Global, n: i64) -> Result<Row, Memory> {
+pub(crate) fn number(alloc: Global, n: i64) -> Result<Row, Memory> {
     let mut row = Seq::new(alloc);
     row.add(Value::Int(n))?;
     Ok(row)

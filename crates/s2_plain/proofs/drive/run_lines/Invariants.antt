@@ -1,5 +1,4 @@
-use Rattle.std.proofs.Common.{◌≡◌, true, List, ◌++◌, length}
-use Rattle.std.specs.Vec.Iter.{into_iter_items, into_iter_len}
+use Rattle.std.proofs.Common.{◌≡◌, true, List, ◌++◌, length, reverse}
 use Rattle.s2_model.specs.declared.outcomes.Said.{Said}
 use Rattle.s2_model.specs.History.{History}
 use Rattle.s2_model.specs.Driven.{Drives}
@@ -11,11 +10,10 @@ use Rattle.s2_plain.proofs.drive.run_lines.Given as goal
 abbrev pub invariant-loop-line : goal.invariant-loop-line
 invariant-loop-line l = record {
   plain : IsPlain l.plain;
-  form : list_all (is_plain_line l.schema) (into_iter_items l.left) ≡ true;
-  joined : (ds : List Said) (whole : History) → Drives l.schema l.plain.log (into_iter_items l.left) ds whole
+  form : list_all (is_plain_line l.schema) (reverse l.left.items) ≡ true;
+  joined : (ds : List Said) (whole : History) → Drives l.schema l.plain.log (reverse l.left.items) ds whole
       → Drives l.schema l.fn.plain.log l.fn.lines (l.saids.items ++ ds) whole;
-  count : into_iter_len l.left ≡ length (into_iter_items l.left);
 }
 
 abbrev pub decreases-loop-line : goal.decreases-loop-line
-decreases-loop-line l = length (into_iter_items l.left)
+decreases-loop-line l = length l.left.items

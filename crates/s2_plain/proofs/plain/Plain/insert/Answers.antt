@@ -1,11 +1,10 @@
-use Rattle.std.proofs.Common.{◌≤◌, ◌+◌, ◌++◌, List, Result, length, refl, ap, subst, ◌∙◌, arith}
-use Rattle.std.specs.Prelude.{filter_map}
-use Rattle.std.proofs.lemmas.Result.{IfOk-weaker}
+use Rattle.std.proofs.Common.{◌≤◌, ◌+◌, List, Result, length, refl, ap, subst, arith}
 use Rattle.s2_model.specs.declared.entries.Change.{Change}
 use Rattle.s2_model.specs.declared.replies.Refusal.{Refusal}
 use Rattle.s2_model.specs.Verdict.{last_length}
-use Rattle.s2_plain.specs.Writes.{PlansInsert, put_of}
+use Rattle.s2_plain.specs.Writes.{PlansInsert}
 use Rattle.s2_plain.proofs.Steps.{insert_done, insert_refused, insert_few}
+use Rattle.s2_plain.proofs.Tables.{same_table}
 use Rattle.s2_plain.proofs.plain.Plain.insert.Goals as goal
 
 pub settle-requires : goal.settle-requires
@@ -13,16 +12,13 @@ settle-requires c =
     let p = c.args.self.now in
     insert_few c.args.rows p.last c.in-Ok.changes (subst (λ (r : Result (List Change) Refusal). PlansInsert c.args.rows p.last r) c.in-Ok.is c.in_ok-changes.ensures)
 
-pub returns-in_ok-add_all-in-Ok : goal.returns-in_ok-add_all-in-Ok
-returns-in_ok-add_all-in-Ok c =
+pub returns-in_ok-reply-in-Ok : goal.returns-in_ok-reply-in-Ok
+returns-in_ok-reply-in-Ok c =
     let p = c.args.self.now in
     let plans = subst (λ (r : Result (List Change) Refusal). PlansInsert c.args.rows p.last r) c.in-Ok.is c.in_ok-changes.ensures in
     let le : length p.log ≤ last_length = omega (arith, c.len.ensures, c.if-len-gt-LAST_LENGTH.false) in
-    IfOk-weaker c.settle.result _ _
-    (λ reply settles. insert_done p _ c.settle.new.self c.args.rows c.in-Ok.changes reply c.requires plans le refl
-    (c.in_ok-add_all-in-Ok.ensures ∙ ap (λ (cs : List Change). p.rows.items ++ filter_map put_of cs) c.as_slice.ensures)
-    (ap (λ n. p.last + n) c.len-in-Ok.ensures) settles)
-    c.settle.ensures
+    insert_done p c.settle.new.self _ c.args.rows c.in-Ok.changes _ c.requires plans le c.in_ok-reply-in-Ok.ensures refl (same_table _ _ refl refl refl) refl
+    (ap (λ n. p.last + n) c.len-in-Ok.ensures)
 
 pub returns-in-Err : goal.returns-in-Err
 returns-in-Err c =
