@@ -62,6 +62,7 @@ fn place(bed: &mut Bed, alloc: Global, from: u64, to: u64) -> anyhow::Result<()>
 }
 
 // Changes rows, each in a write and a commit of its own, and cuts the versions that ended now and then. The time of the last commit.
+#[inline(never)]
 fn change(bed: &mut Bed, alloc: Global, order: Order, rows: u64, from: u64) -> anyhow::Result<u64> {
     let mut time = from;
     for i in 0..CALLS {
@@ -77,6 +78,7 @@ fn change(bed: &mut Bed, alloc: Global, order: Order, rows: u64, from: u64) -> a
 }
 
 // Looks rows up, and counts those that there are.
+#[inline(never)]
 fn look_up(bed: &Bed, order: Order, rows: u64) -> u64 {
     let mut found = 0u64;
     for i in 0..CALLS {
@@ -88,6 +90,7 @@ fn look_up(bed: &Bed, order: Order, rows: u64) -> u64 {
 }
 
 // Looks keys up, and counts the rows that have them.
+#[inline(never)]
 fn by_key(bed: &Bed, alloc: Global, order: Order, rows: u64) -> anyhow::Result<u64> {
     let mut found = 0u64;
     for i in 0..CALLS {
@@ -112,6 +115,7 @@ fn line(
     Ok(())
 }
 
+#[inline(never)]
 fn time_place(rt: &HostRuntime, bed: &mut Bed, rows: u64) -> anyhow::Result<()> {
     let from = rows.saturating_add(1);
     let start = rt.thread_cpu_time()?;
@@ -161,7 +165,8 @@ fn time_order(
     Ok(time)
 }
 
-fn at_size(rt: &HostRuntime, rows: u64) -> anyhow::Result<()> {
+/// Writes the figures for so many rows.
+pub(crate) fn at_size(rt: &HostRuntime, rows: u64) -> anyhow::Result<()> {
     let mut bed = Bed::new(rt.alloc())?;
     place(&mut bed, rt.alloc(), 1, rows.saturating_add(1))?;
     time_place(rt, &mut bed, rows)?;
@@ -185,6 +190,7 @@ fn plain_maps(
     Ok((numbers, keys))
 }
 
+#[inline(never)]
 fn look_up_number(numbers: &BTreeMap<u64, u64>, order: Order, rows: u64) -> u64 {
     let mut found = 0u64;
     for i in 0..CALLS {
@@ -195,6 +201,7 @@ fn look_up_number(numbers: &BTreeMap<u64, u64>, order: Order, rows: u64) -> u64 
     found
 }
 
+#[inline(never)]
 fn look_up_key(
     keys: &BTreeMap<Key, u64>,
     alloc: Global,
