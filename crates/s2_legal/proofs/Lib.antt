@@ -1,8 +1,10 @@
 pub mod Answering
 pub mod BuiltHistories
 pub mod Fitting
+pub mod LastPuts
 pub mod MapRows
 pub mod Outcomes
+pub mod Rising
 pub mod Rulings
 pub mod Standing
 pub mod Walks

@@ -1,5 +1,5 @@
 -- The content after a history with each actor's open writes, as a fold over the entries keeps it.
-use Rattle.std.specs.Prelude.{◌≡◌, ℕ, suc, ◌+◌, ◌<◌, ◌≤◌, Bool, true, false, List, [], ◌∷◌, Option, Some, None, length, map, filter, slice_index_or, not, ◌&&◌, ◌||◌, ◌==◌, if◌then◌else◌, is_some, nat_lt, nat_le}
+use Rattle.std.specs.Prelude.{◌≡◌, ℕ, suc, ◌+◌, ◌<◌, ◌≤◌, Bool, true, false, List, [], ◌∷◌, Option, Some, None, length, map, filter, slice_index_or, not, ◌&&◌, ◌||◌, ◌==◌, if◌then◌else◌, is_some, unwrap_or, nat_lt, nat_le}
 use Rattle.std.specs.List.{find, list_all}
 use Rattle.std.specs.Option.{option_map, option_or}
 use Rattle.s2_value.specs.declared.schemas.Schema.{Schema}
@@ -14,7 +14,7 @@ use Rattle.s2_model.specs.declared.replies.Refusal.{Refusal}
 use Rattle.s2_model.specs.declared.replies.Refusal.TheVariants.{LogFull, TooManyRows, Locked, OutOfRange, Memory}
 use Rattle.s2_model.specs.declared.statements.Stmt.{Stmt}
 use Rattle.s2_model.specs.declared.statements.Stmt.TheVariants.{Insert, Update, Delete}
-use Rattle.s2_model.specs.Table.{Table, row_at, apply, touches, number_of}
+use Rattle.s2_model.specs.Table.{Table, row_at, apply, touches, number_of, IsTable}
 use Rattle.s2_model.specs.History.{History, state, pending, greatest, upto, own, extended, is_session}
 use Rattle.s2_model.specs.Held.{sessions}
 use Rattle.s2_model.specs.Fits.{rise, put_fits, put_on_from}
@@ -35,6 +35,10 @@ pub record IsWorld (rows : Table) (ws : List (List Change)) (last : ℕ) (H : Hi
 -- what an actor sees
 abbrev pub view_in : Table → List (List Change) → ℕ → Table
 view_in rows ws k = apply rows (open_of ws k)
+
+-- at each time the numbers of the rows that an actor sees rise
+abbrev pub AreTables : History → Type 0
+AreTables H = (r k : ℕ) → IsTable (apply (state (upto r H)) (pending (upto r H) k))
 
 -- there is a row of this number among those that the actor sees
 abbrev pub sees_in : Table → List (List Change) → ℕ → ℕ → Bool
@@ -109,6 +113,11 @@ is_put (Drop n) = false
 abbrev pub is_left : List Change → ℕ → Bool → Bool
 is_left [] n was = was
 is_left (c ∷ cs) n was = is_left cs n (if number_of c == n then is_put c else was)
+
+-- of each row whether the last of the changes that are of it puts it, if one is
+pub record KnowsLast (puts : ℕ → Option Bool) (changes : List Change) : Type 0 where
+  pub touched : (n : ℕ) → is_some (puts n) ≡ touches changes n
+  pub left : (n : ℕ) (was : Bool) → unwrap_or (puts n) was ≡ is_left changes n was
 
 -- a write fits, outside pins and segments
 abbrev pub write_fits_in : Schema → Table → List (List Change) → ℕ → ℕ → List Change → Bool

@@ -1,7 +1,8 @@
 //! The judge.
 ghost use Rattle.std.specs.Prelude.{◌≡◌, [], IfOk, MatchOption, true};
-ghost use Rattle.s2_model.specs.History.{is_session};
+ghost use Rattle.s2_model.specs.History.{history, is_session};
 ghost use Rattle.s2_legal.specs.Built.{IsBuilt};
+ghost use Rattle.s2_legal.specs.World.{AreTables};
 ghost use Rattle.s2_legal.specs.Faults.{IsWhole, transcript_of, Judged, IsFaultOf};
 
 use crate::answers::LegalAnswer;
@@ -29,6 +30,7 @@ fn transcript_of(transcripts: &[Transcript], k: u8) -> Option<&Transcript>
 fn fault_of(alloc: Global, script: &Script, run: &Outcome, k: u8) -> Result<Option<u64>, Memory>
     requires whole { IsWhole script.now run.now }
     requires built { IsBuilt script.now run.now }
+    requires tables { AreTables (history run.now.history) }
     requires session { is_session k ≡ true }
     ensures { IfOk result (IsFaultOf script.now run.now k) }
 {
@@ -44,7 +46,8 @@ fn fault_of(alloc: Global, script: &Script, run: &Outcome, k: u8) -> Result<Opti
 /// then the sessions by rising number with their replies in order, where each session's end counts as one more.
 /// Its condition is that the transcripts are, by rising number, those of the sessions with a line, each with as many replies as lines,
 /// and that entries and statements are of the built kinds. The `Err` is want of memory.
-/// It goes once over the history, and once more for each session with a line; an INSERT costs the rows that it inserts, any other statement the rows of the table.
+/// It goes once over the history, and once more for each session with a line. A change in an entry costs look-ups of its row in the table and among the open writes of each session;
+/// an INSERT costs the rows that it inserts, any other statement the rows of the table, and a SELECT with an order sorts once the rows that it finds.
 pub fn legal(alloc: Global, script: &Script, run: &Outcome) -> Result<LegalAnswer, Memory>
     requires whole { IsWhole script.now run.now }
     requires built { IsBuilt script.now run.now }

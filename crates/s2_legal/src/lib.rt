@@ -3,12 +3,17 @@
 
 mod answers;
 mod fits;
+#[cfg(test)]
+mod generated;
 mod judge;
 mod laws;
+mod opens;
 mod replies;
 mod same;
 mod sessions;
 mod shapes;
+#[cfg(test)]
+mod slowly;
 mod tables;
 #[cfg(test)]
 mod tests;

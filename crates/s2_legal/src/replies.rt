@@ -4,7 +4,7 @@ ghost use Rattle.s2_value.specs.declared.schemas.Schema.{Schema};
 ghost use Rattle.s2_model.specs.declared.entries.What.TheVariants as what;
 ghost use Rattle.s2_model.specs.History.{history, own};
 ghost use Rattle.s2_legal.specs.Built.{is_built_stmt, are_built};
-ghost use Rattle.s2_legal.specs.World.{IsWorld, committed, is_ruled, is_ruled_refusal, is_memory, is_memory_refusal, IsStand, IsMade, IsEnd, IsNext};
+ghost use Rattle.s2_legal.specs.World.{IsWorld, AreTables, committed, is_ruled, is_ruled_refusal, is_memory, is_memory_refusal, IsStand, IsMade, IsEnd, IsNext};
 
 use crate::same::{Same, all_same};
 use crate::verdicts::verdict;
@@ -107,6 +107,7 @@ fn made(
 ) -> Result<Option<usize>, Memory>
     requires place { r ≤ length h.now }
     requires world { IsWorld world.now.rows.entries world.now.writes.items world.now.greatest (history (take r h.now)) }
+    requires tables { AreTables (history h.now) }
     requires built { are_built (history h.now) ≡ true }
     requires stmt { is_built_stmt stmt.now ≡ true }
     ensures end { IfOk result (λ o. (schema : Schema) → schema.uniques ≡ [] → IsEnd (history h.now) r (IsMade schema (history h.now) k r stmt.now reply.now) o) }
@@ -168,6 +169,7 @@ pub(crate) fn next_end(
 ) -> Result<Option<usize>, Memory>
     requires place { floor ≤ length h.now }
     requires world { IsWorld world.old.rows.entries world.old.writes.items world.old.greatest (history (take floor h.now)) }
+    requires tables { AreTables (history h.now) }
     requires built { are_built (history h.now) ≡ true }
     requires stmt { is_built_stmt stmt.now ≡ true }
     ensures end { IfOk result (λ o. (schema : Schema) → schema.uniques ≡ [] → IsEnd (history h.now) said.now.r (IsNext schema (history h.now) k floor was stmt.now said.now) o) }

@@ -6,6 +6,7 @@ ghost use Rattle.s2_model.specs.declared.scripts.Options.{Options};
 ghost use Rattle.s2_model.specs.History.{history};
 ghost use Rattle.s2_model.specs.Legal.{stmts_of};
 ghost use Rattle.s2_legal.specs.Built.{is_built_stmt, are_built};
+ghost use Rattle.s2_legal.specs.World.{AreTables};
 ghost use Rattle.s2_legal.specs.Sessions.{IsNextLine, IsFirstWrong};
 
 use crate::replies::{is_quiet, next_end};
@@ -38,6 +39,7 @@ pub(crate) fn first_wrong(
     said: &[Said],
     faults: u64,
 ) -> Result<Option<u64>, Memory>
+    requires tables { AreTables (history h.now) }
     requires built { are_built (history h.now) ≡ true }
     requires stmts { list_all (λ l. is_built_stmt l.stmt) lines.now ≡ true }
     requires even { length said.now ≡ length (stmts_of k lines.now) }

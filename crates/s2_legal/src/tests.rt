@@ -1,4 +1,5 @@
 //! Worked outcomes and their mutations.
+use crate::slowly::judge;
 use crate::{LegalAnswer, is_built, is_whole, legal};
 use s2_model::{
     Cell, CellTable, Change, ChangeList, Condition, Entry, EntryList, Items, Line, LineList, Op,
@@ -11,7 +12,7 @@ use std::alloc::Global;
 use std::test::Fail;
 
 #[derive(Clone, Copy, Debug)]
-enum Asked {
+pub(crate) enum Asked {
     Insert(i64),
     AddOne,
     DeleteId(i64),
@@ -46,7 +47,7 @@ type Replies = &'static [(u64, u64, Told)];
 
 type Sessions = &'static [(u8, u64, Replies)];
 
-fn one_column(alloc: Global) -> Result<Schema, Fail> {
+pub(crate) fn one_column(alloc: Global) -> Result<Schema, Fail> {
     let mut cols = Seq::new(alloc);
     cols.add(Col {
         name: Name::new(alloc, b"id")?,
@@ -100,7 +101,7 @@ fn select_all(alloc: Global) -> Result<Stmt, Fail> {
     Ok(Stmt::Select(Boxed::new(alloc, select)?))
 }
 
-fn stmt_of(alloc: Global, asked: Asked) -> Result<Stmt, Fail> {
+pub(crate) fn stmt_of(alloc: Global, asked: Asked) -> Result<Stmt, Fail> {
     match asked {
         Insert(id) => insert(alloc, id),
         AddOne => add_one(alloc),
@@ -124,7 +125,7 @@ fn script_of(alloc: Global, lines: Lines) -> Result<Script, Fail> {
     })
 }
 
-fn puts_of(alloc: Global, puts: &[(u64, i64)]) -> Result<ChangeList, Fail> {
+pub(crate) fn puts_of(alloc: Global, puts: &[(u64, i64)]) -> Result<ChangeList, Fail> {
     let mut changes = Seq::new(alloc);
     for (number, id) in puts {
         changes.add(Change::Put(*number, row_of(alloc, *id)?))?;
@@ -202,7 +203,18 @@ fn transcripts_of(alloc: Global, sessions: Sessions) -> Result<TranscriptList, F
     Ok(transcripts)
 }
 
-/// What the judge answers.
+/// What both judges answer.
+fn answer(alloc: Global, script: &Script, run: &Outcome) -> Result<LegalAnswer, Fail> {
+    if !is_whole(script, run) || !is_built(script, run) {
+        return Err(Fail::from("shape"));
+    }
+    let answer = legal(alloc, script, run)?;
+    if judge(alloc, script, run)? != answer {
+        return Err(Fail::from("the judges differ"));
+    }
+    Ok(answer)
+}
+
 fn judged(
     alloc: Global,
     lines: Lines,
@@ -214,10 +226,7 @@ fn judged(
         history: history_of(alloc, entries)?,
         transcripts: transcripts_of(alloc, sessions)?,
     };
-    if !is_whole(&script, &run) || !is_built(&script, &run) {
-        return Err(Fail::from("shape"));
-    }
-    Ok(legal(alloc, &script, &run)?)
+    answer(alloc, &script, &run)
 }
 
 const LINES: Lines = &[
@@ -339,10 +348,7 @@ fn with_reply(alloc: Global, replies: Replies) -> Result<LegalAnswer, Fail> {
         history: history_of(alloc, ENTRIES)?,
         transcripts,
     };
-    if !is_whole(&script, &run) || !is_built(&script, &run) {
-        return Err(Fail::from("shape"));
-    }
-    Ok(legal(alloc, &script, &run)?)
+    answer(alloc, &script, &run)
 }
 
 #[test]

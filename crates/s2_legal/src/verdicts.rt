@@ -1,6 +1,7 @@
 //! The verdict on a statement outside transactions, of a table without unique keys.
 ghost use Rattle.std.specs.Prelude.{◌≡◌, ◌≤◌, ◌<◌, [], IfOk, IfSome, OnOk, true, suc, length, map, is_none, unwrap_or, if◌then◌else◌, Some, None};
 ghost use Rattle.s2_value.specs.declared.schemas.Schema.{Schema};
+ghost use Rattle.s2_model.specs.Table.{rises_above};
 ghost use Rattle.s2_model.specs.Rows.{after};
 ghost use Rattle.s2_model.specs.Answer.{answer};
 ghost use Rattle.s2_model.specs.History.{History};
@@ -10,8 +11,8 @@ ghost use Rattle.s2_legal.specs.World.{IsWorld, view_in, locked_in, changes_from
 
 use crate::world::{World, holder, matching};
 use s2_model::{Change, Refusal, Reply, Select, SetList, Stmt, after};
-use s2_slow::answer_of;
-use s2_value::{Duplicate, Memory, Row, Seq};
+use s2_plain::answer;
+use s2_value::{Duplicate, Memory, Row};
 use std::alloc::{AllocError, Global};
 
 /// The last length of a history at which a statement that appends is taken.
@@ -224,13 +225,14 @@ fn write_ruling(
     write(alloc, world, k, stmt, &rows, changes)
 }
 
-#[tactic(auto, using(crate::proofs::Worlds::answer_kept))]
+#[tactic(auto, using(crate::proofs::Worlds::answer_kept, crate::proofs::Rising::rising_kept))]
 fn read(alloc: Global, world: &World, k: u8, select: &Select) -> Result<Ruled, Memory>
-    requires { length world.now.writes.items ≡ 256 }
+    requires actors { length world.now.writes.items ≡ 256 }
+    requires rising { rises_above 0 (view_in world.now.rows.entries world.now.writes.items k) ≡ true }
     ensures { IfOk result (λ r. (r.reply ≡ Reply.Rows (answer select.now (view_in world.now.rows.entries world.now.writes.items k))) × (r.changes.items ≡ [])) }
 {
-    let rows = Seq::from_vec(matching(alloc, world, k, &select.pred)?);
-    let cells = answer_of(alloc, select, &rows)?;
+    let rows = matching(alloc, world, k, &select.pred)?;
+    let cells = answer(alloc, select, &rows)?;
     Ok(says(alloc, Reply::Rows(cells)))
 }
 
@@ -244,6 +246,7 @@ pub(crate) fn verdict(
     stmt: &Stmt,
 ) -> Result<Ruled, Memory>
     requires actors { length world.now.writes.items ≡ 256 }
+    requires rising { rises_above 0 (view_in world.now.rows.entries world.now.writes.items k) ≡ true }
     requires built { is_built_stmt stmt.now ≡ true }
     ensures rules { IfOk result (λ r. (schema : Schema) (H : History) → IsWorld world.now.rows.entries world.now.writes.items world.now.greatest H → are_built H ≡ true → schema.uniques ≡ [] → count ≡ length H → verdict schema H k stmt.now ≡ ruled r.reply r.changes.items) }
     ensures kind { IfOk result (λ r. is_ruled r.reply ≡ true) }

@@ -4,12 +4,13 @@ ghost use Rattle.s2_model.specs.History.{History, ◌▷◌, pending_after, grea
 ghost use Rattle.s2_model.specs.Table.{apply};
 ghost use Rattle.s2_model.specs.Answer.{kept};
 ghost use Rattle.s2_model.specs.Held.{sessions};
-ghost use Rattle.s2_legal.specs.World.{IsWorld, open_of, view_in, sees_in, holder_in, is_put, is_left};
+ghost use Rattle.s2_legal.specs.World.{IsWorld, open_of, view_in, sees_in, holder_in};
 
+use crate::opens::OpenWrites;
 use crate::tables::{Rows, all_rows, apply_all, has_row, kept_rows};
-use s2_model::{Change, ChangeList, Condition, Entry, What};
-use s2_slow::{apply, kept, number_of, sessions, touches};
-use s2_value::{Duplicate, Memory, Row, Seq};
+use s2_model::{Change, Condition, Entry, What};
+use s2_slow::{apply, kept, number_of, sessions};
+use s2_value::{Memory, Row};
 use std::alloc::Global;
 use std::collections::BTreeMap;
 use std::mem;
@@ -21,17 +22,17 @@ const ACTORS: usize = 256;
 #[derive(Drop)]
 pub(crate) struct World {
     pub rows: Rows,
-    pub writes: Vec<ChangeList>,
+    pub writes: Vec<OpenWrites>,
     pub greatest: u64,
 }
 
-fn no_writes(alloc: Global) -> Result<Vec<ChangeList>, Memory>
+fn no_writes(alloc: Global) -> Result<Vec<OpenWrites>, Memory>
     ensures actors { IfOk result (λ ws. length ws.items ≡ 256) }
     ensures none { IfOk result (λ ws. (k : ℕ) → open_of ws.items k ≡ []) }
 {
     let mut writes = Vec::with_capacity(alloc, ACTORS)?;
     for _i in 0..ACTORS {
-        writes.push(Seq::new(alloc))?;
+        writes.push(OpenWrites::new(alloc))?;
     }
     Ok(writes)
 }
@@ -48,15 +49,6 @@ fn greatest_in(changes: &[Change], was: u64) -> u64
     greatest
 }
 
-fn add_all(writes: &mut ChangeList, more: &[Change]) -> Result<(), Memory>
-    ensures { OnOk result (writes.new ≡ writes.old ++ more.now) }
-{
-    for change in more {
-        writes.add(change.copy()?)?;
-    }
-    Ok(())
-}
-
 impl World {
     /// Before the first entry.
     pub(crate) fn new(alloc: Global) -> Result<World, Memory>
@@ -69,13 +61,13 @@ impl World {
         })
     }
 
-    fn write(&mut self, k: usize, changes: &[Change]) -> Result<(), Memory>
+    fn write(&mut self, alloc: Global, k: usize, changes: &[Change]) -> Result<(), Memory>
         requires { k < length self.old.writes.items }
         ensures open_writes { OnOk result (self.new.writes.items ≡ slice_set self.old.writes.items k (open_of self.old.writes.items k ++ changes.now)) }
         ensures number { OnOk result (self.new.greatest ≡ greatest_in changes.now self.old.greatest) }
         ensures rows { OnOk result (self.new.rows.entries ≡ self.old.rows.entries) }
     {
-        add_all(&mut self.writes[k], changes)?;
+        self.writes[k].extend(alloc, changes)?;
         self.greatest = greatest_in(changes, self.greatest);
         Ok(())
     }
@@ -86,8 +78,8 @@ impl World {
         ensures number { OnOk result (self.new.greatest ≡ self.old.greatest) }
         ensures rows { OnOk result (self.new.rows.entries ≡ apply self.old.rows.entries (open_of self.old.writes.items k)) }
     {
-        let changes = mem::replace(&mut self.writes[k], Seq::new(alloc));
-        apply_all(&mut self.rows, changes.into_vec())
+        let open = mem::replace(&mut self.writes[k], OpenWrites::new(alloc));
+        apply_all(&mut self.rows, open.into_changes())
     }
 
     /// After one entry more.
@@ -97,10 +89,10 @@ impl World {
     {
         let k = usize::from(entry.actor);
         match &entry.what {
-            What::Write(changes) => self.write(k, changes.as_slice())?,
+            What::Write(changes) => self.write(alloc, k, changes.as_slice())?,
             What::Commit => self.commit(alloc, k)?,
-            What::Begin => self.writes[k] = Seq::new(alloc),
-            What::Rollback => self.writes[k] = Seq::new(alloc),
+            What::Begin => self.writes[k] = OpenWrites::new(alloc),
+            What::Rollback => self.writes[k] = OpenWrites::new(alloc),
             _ => {}
         }
         Ok(())
@@ -126,29 +118,6 @@ pub(crate) fn matching(
     kept(alloc, pred, &rows)
 }
 
-fn is_put(change: &Change) -> bool
-    ensures { result ≡ is_put change.now }
-{
-    match change {
-        Change::Put(_, _) => true,
-        Change::Drop(_) => false,
-    }
-}
-
-fn is_left(changes: &[Change], number: u64, was: bool) -> bool
-    ensures { result ≡ is_left changes.now number was }
-{
-    let mut found = was;
-    let mut left = changes;
-    while let [change, rest @ ..] = left {
-        if number_of(change) == number {
-            found = is_put(change);
-        }
-        left = rest;
-    }
-    found
-}
-
 /// Whether the actor sees a row of this number.
 #[tactic(auto, using(crate::proofs::Worlds::left_row))]
 pub(crate) fn sees(world: &World, k: u8, number: u64) -> bool
@@ -156,7 +125,7 @@ pub(crate) fn sees(world: &World, k: u8, number: u64) -> bool
     ensures { result ≡ sees_in world.now.rows.entries world.now.writes.items k number }
 {
     let was = has_row(&world.rows, number);
-    is_left(world.writes[usize::from(k)].as_slice(), number, was)
+    world.writes[usize::from(k)].is_left(number, was)
 }
 
 /// The least session but this one that holds the row.
@@ -167,7 +136,7 @@ pub(crate) fn holder(world: &World, k: u8, number: u64) -> Option<u8>
     let actors = sessions();
     let mut left = actors.as_slice();
     while let [other, rest @ ..] = left {
-        if *other != k && touches(world.writes[usize::from(*other)].as_slice(), number) {
+        if *other != k && world.writes[usize::from(*other)].touches(number) {
             return Some(*other);
         }
         left = rest;

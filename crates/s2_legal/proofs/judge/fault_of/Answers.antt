@@ -7,6 +7,7 @@ use Rattle.s2_model.specs.History.{history}
 use Rattle.s2_model.specs.Legal.{stmts_of, marks_of}
 use Rattle.s2_legal.specs.Built.{are_built}
 use Rattle.s2_legal.specs.Faults.{transcript_of}
+use Rattle.s2_legal.specs.World.{AreTables}
 use Rattle.s2_legal.proofs.BuiltHistories.{built_history}
 use Rattle.s2_legal.proofs.Outcomes.{even_of, fault_told}
 use Rattle.s2_legal.proofs.judge.fault_of.Goals as goal
@@ -14,6 +15,9 @@ use Rattle.s2_legal.proofs.judge.fault_of.Goals as goal
 pub first_wrong-requires-clause-built : goal.first_wrong-requires-clause-built
 first_wrong-requires-clause-built c =
     subst (λ (xs : List Entry). are_built (history xs) ≡ true) (sym c.as_slice-h.ensures) (built_history c.args.run.now.history c.requires.built.entries)
+
+pub first_wrong-requires-clause-tables : goal.first_wrong-requires-clause-tables
+first_wrong-requires-clause-tables c = subst (λ (xs : List Entry). AreTables (history xs)) (sym c.as_slice-h.ensures) c.requires.tables
 
 pub first_wrong-requires-clause-even : goal.first_wrong-requires-clause-even
 first_wrong-requires-clause-even c =
@@ -25,6 +29,9 @@ first_wrong-requires-clause-even c =
 pub first_wrong-requires-in-None-clause-built : goal.first_wrong-requires-in-None-clause-built
 first_wrong-requires-in-None-clause-built c =
     subst (λ (xs : List Entry). are_built (history xs) ≡ true) (sym c.as_slice-h.ensures) (built_history c.args.run.now.history c.requires.built.entries)
+
+pub first_wrong-requires-in-None-clause-tables : goal.first_wrong-requires-in-None-clause-tables
+first_wrong-requires-in-None-clause-tables c = subst (λ (xs : List Entry). AreTables (history xs)) (sym c.as_slice-h.ensures) c.requires.tables
 
 pub first_wrong-requires-in-None-clause-even : goal.first_wrong-requires-in-None-clause-even
 first_wrong-requires-in-None-clause-even c =

@@ -7,7 +7,16 @@ use Rattle.s2_model.specs.Fits.{AllFit}
 use Rattle.s2_legal.specs.Faults.{IsFirstUnfit}
 use Rattle.s2_legal.proofs.BuiltHistories.{parts}
 use Rattle.s2_legal.proofs.Outcomes.{legal_from}
+use Rattle.s2_legal.proofs.Rising.{are_tables}
 use Rattle.s2_legal.proofs.judge.legal.Goals as goal
+
+pub fault_of-requires-clause-tables : goal.fault_of-requires-clause-tables
+fault_of-requires-clause-tables c =
+    let schema = c.args.script.now.schema in
+    let options = c.args.script.now.options in
+    let told = subst (λ (o : Option ℕ). MatchOption o (AllFit schema options (history c.as_slice.result.now)) (λ n. IsFirstUnfit schema options (history c.as_slice.result.now) n))
+    c.in_default.is (c.in_ok-entry.ensures options) in
+    are_tables schema options (history c.args.run.now.history) (subst (λ (xs : List Entry). AllFit schema options (history xs)) c.as_slice.ensures told)
 
 pub returns-in-Some : goal.returns-in-Some
 returns-in-Some c =

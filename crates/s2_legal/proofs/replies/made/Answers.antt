@@ -1,15 +1,25 @@
 use Rattle.std.proofs.Common.{◌≡◌, ◌≤◌, ◌∙◌, true, List, length, take, sym, subst, arith}
 use Rattle.std.proofs.lemmas.Bool.{both_ways}
 use Rattle.s2_model.specs.declared.entries.Change.{Change}
-use Rattle.s2_model.specs.History.{History, history, upto}
+use Rattle.s2_model.specs.Table.{IsTable, apply}
+use Rattle.s2_model.specs.History.{History, history, upto, state, pending}
 use Rattle.s2_model.specs.Verdict.{verdict}
 use Rattle.s2_slow.proofs.SlowHistories.{length_history}
 use Rattle.s2_legal.specs.Built.{are_built}
 use Rattle.s2_legal.specs.World.{IsStand, committed, ruled}
 use Rattle.s2_legal.proofs.Answering.{made_same, made_memory, made_not}
 use Rattle.s2_legal.proofs.BuiltHistories.{built_upto}
+use Rattle.s2_legal.proofs.Rising.{rising_view}
 use Rattle.s2_legal.proofs.Standing.{at_upto, from_upto, length_front}
 use Rattle.s2_legal.proofs.replies.made.Goals as goal
+
+pub verdict-requires-clause-rising : goal.verdict-requires-clause-rising
+verdict-requires-clause-rising c =
+    let h = c.args.h.now in
+    let r = c.args.r in
+    let k = c.args.k in
+    rising_view c.args.world.now.rows.entries c.args.world.now.writes.items c.args.world.now.greatest (history (take r h)) k (omega (arith, c.ranges.k.fits)) c.requires.world
+    (from_upto (λ (X : History). IsTable (apply (state X) (pending X k))) h r c.requires.place (c.requires.tables r k))
 
 pub returns-then-same_reply-clause-end : goal.returns-then-same_reply-clause-end
 returns-then-same_reply-clause-end c = λ schema keyless.
