@@ -1,0 +1,12 @@
+pub mod Items
+pub mod Bytes
+pub mod GoodLines
+pub mod Plain
+pub mod Trees
+pub mod Reprinted
+pub mod Faults
+pub mod Spelled
+pub mod Tables
+pub mod Options
+pub mod Walk
+pub mod Law

@@ -1,0 +1,13 @@
+pub mod Counting
+pub mod SlotSteps
+pub mod Chains
+pub mod KeySteps
+pub mod Sessions
+pub mod Over
+pub mod Empty
+pub mod Ready
+pub mod Writes
+pub mod Tables
+pub mod Shown
+pub mod Fitting
+pub mod Soundness

@@ -1,0 +1,11 @@
+pub mod Ends
+pub mod Good
+pub mod Journals
+pub mod Keys
+pub mod Laws
+pub mod Placed
+pub mod Slots
+pub mod Sound
+pub mod States
+pub mod Takers
+pub mod Takes

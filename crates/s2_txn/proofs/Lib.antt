@@ -1,0 +1,4 @@
+pub mod Steps
+pub mod Unrefused
+pub mod WriteSteps
+pub mod Items
