@@ -1,13 +1,12 @@
 -- What it says of the unique keys that a write isn't refused.
-use Rattle.std.proofs.Common.{◌≡◌, ℕ, zero, suc, ◌+◌, ◌<◌, Bool, true, false, not, ◌&&◌, ◌||◌, cond, ◌==◌, nat_lt, List, [], ◌∷◌, ◌++◌, map, Option, Some, None, is_some, refl, sym, ap, subst, ◌∙◌, ◌⊎◌, inl, inr, ⊎_elim, arith}
+use Rattle.std.proofs.Common.{◌≡◌, ℕ, zero, suc, ◌<◌, Bool, true, false, not, ◌&&◌, ◌||◌, cond, ◌==◌, List, [], ◌∷◌, ◌++◌, map, Option, Some, None, is_some, refl, sym, ap, subst, ◌∙◌, ◌⊎◌, inl, inr, ⊎_elim, arith}
 use Rattle.std.specs.Prelude.{slice_get}
 use Rattle.std.specs.Option.{option_map, option_or}
 use Rattle.std.specs.List.{list_any, find}
 use Rattle.std.proofs.lemmas.List.Folds.{list_any-append}
 use Rattle.std.proofs.lemmas.List.Sums.{fold-append}
-use Rattle.std.proofs.lemmas.Bool.{false≢true, true≢false, both_ways, ltb-true, and_parts, and_from, eqb-true, eqb-false, eq-eqb, ne_eqb, or_cases, or_left, or_right, not_from_false, cases_eq, false_from_ne_true}
+use Rattle.std.proofs.lemmas.Bool.{false≢true, both_ways, ltb-true, and_parts, and_from, eqb-true, eq-eqb, ne_eqb, or_cases, or_left, or_right, not_from_false, cases_eq}
 use Rattle.s2_value.specs.declared.values.Value.{Value}
-use Rattle.s2_value.specs.declared.schemas.Schema.{Schema}
 use Rattle.s2_value.specs.Order.{row_eq, same_row}
 use Rattle.s2_value.specs.Rows.{key_of}
 use Rattle.s2_model.specs.declared.entries.Change.{Change}
@@ -16,7 +15,7 @@ use Rattle.s2_model.specs.declared.replies.Refusal.{Refusal}
 use Rattle.s2_model.specs.Table.{Table, RowOf, row_at, apply, apply_change, touches, number_of}
 use Rattle.s2_model.specs.History.{History, state, pending, is_session}
 use Rattle.s2_model.specs.Held.{has_key, some_has_key, put_has_key, has_value, holds, holds_value, sessions}
-use Rattle.s2_model.specs.Verdict.{first_some, first_from, other_value_holder, locked_value_at, locked_value, has_other, duplicate_at, duplicate}
+use Rattle.s2_model.specs.Verdict.{first_some, first_from, locked_value_at, locked_value, has_other, duplicate_at, duplicate}
 use Rattle.s2_model.specs.Fits.{rise, rise_from}
 use Rattle.s2_model.proofs.Tables.{row_at-apply, row_at_untouched}
 use Rattle.s2_model.proofs.Holders.{some_session}
@@ -24,7 +23,7 @@ use Rattle.s2_state.specs.Slots.{put_by, last_from, last_of}
 use Rattle.s2_state.specs.Keys.{AreDistinct, IsKeyKept}
 use Rattle.s2_state.specs.Takes.{IsFreeKey}
 use Rattle.s2_state.proofs.SlotSteps.{change_or, row_after_last, last_touches, last_from_is}
-use Rattle.s2_state.proofs.KeySteps.{RowsApart, own_key}
+use Rattle.s2_state.proofs.KeySteps.{own_key}
 
 -- a change among others
 

@@ -1,5 +1,5 @@
 -- A good state stays good with a write, in a transaction or outside one, where a COMMIT follows it.
-use Rattle.std.proofs.Common.{◌≡◌, ℕ, suc, ◌+◌, ◌≤◌, true, false, ◌||◌, ◌&&◌, ◌==◌, List, [], length, refl, sym, ap, subst, ◌∙◌, arith}
+use Rattle.std.proofs.Common.{◌≡◌, ℕ, ◌+◌, ◌≤◌, true, false, ◌||◌, ◌&&◌, ◌==◌, List, [], length, refl, sym, ap, subst, arith}
 use Rattle.std.proofs.lemmas.Bool.{and_from, eq-eqb, or_right}
 use Rattle.s2_model.specs.declared.entries.Change.{Change}
 use Rattle.s2_model.specs.declared.entries.What.TheVariants.{Write, Commit}
@@ -11,7 +11,7 @@ use Rattle.s2_state.specs.declared.states.State.{State}
 use Rattle.s2_state.specs.States.{history_of, room_of}
 use Rattle.s2_state.specs.Takes.{AreFreeKeys}
 use Rattle.s2_state.specs.Good.{Good}
-use Rattle.s2_state.proofs.Over.{Over, over, Idle, Ready, good_from, over_at, commit_over}
+use Rattle.s2_state.proofs.Over.{Over, over, Idle, good_from, over_at, commit_over}
 use Rattle.s2_state.proofs.Ready.{commit_idle, early_ready, write_idle, write_others}
 use Rattle.s2_state.proofs.Writes.{write_over}
 use Rattle.s2_txn.specs.Entries.{Commits, Writes}
