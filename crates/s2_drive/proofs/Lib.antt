@@ -1,0 +1,5 @@
+pub mod Pins
+pub mod Walks
+pub mod InOrder
+pub mod Readings
+pub mod Dealing

@@ -1,0 +1,76 @@
+//! A run of a script's lines in their order.
+ghost use Rattle.std.specs.Prelude.{◌≡◌, [], IfOk, OnOk, true, vec_len};
+ghost use Rattle.std.specs.List.{list_all};
+ghost use Rattle.s2_model.specs.Driven.{IsRightRun};
+ghost use Rattle.s2_state.specs.States.{history_of};
+ghost use Rattle.s2_state.specs.Good.{Good};
+ghost use Rattle.s2_txn.specs.Says.{SameTable};
+ghost use Rattle.s2_drive.specs.Runs.{is_taken};
+ghost use Rattle.s2_drive.specs.Dealt.{Deals, RunsTo};
+
+use crate::laws::runs_in_order_are_right;
+use crate::lines::take_line;
+use crate::replies::{no_replies, put, transcripts};
+use crate::turns::turn;
+use s2_model::{Line, LineList, Outcome, SaidList, Script};
+use s2_state::State;
+use s2_value::Memory;
+use std::alloc::Global;
+
+/// Answers a line, and adds the reply to those of its session.
+fn run_line(
+    alloc: Global,
+    state: &mut State,
+    replies: &mut Vec<SaidList>,
+    line: Line,
+) -> Result<(), Memory>
+    requires good { Good state.old }
+    requires taken { is_taken line ≡ true }
+    requires sessions { vec_len replies.old ≡ 16 }
+    ensures good { Good state.new }
+    ensures table { SameTable state.old state.new }
+    ensures sessions { vec_len replies.new ≡ 16 }
+    ensures turn { OnOk result (Deals state.old.schema line (history_of state.old) (history_of state.new) replies.old.items replies.new.items) }
+{
+    let said = turn(alloc, state, &line);
+    put(replies, line.session, said)
+}
+
+fn run_lines(alloc: Global, state: &mut State, lines: LineList) -> Result<Vec<SaidList>, Memory>
+    requires good { Good state.old }
+    requires empty { history_of state.old ≡ [] }
+    requires taken { list_all is_taken lines ≡ true }
+    ensures good { Good state.new }
+    ensures table { SameTable state.old state.new }
+    ensures sessions { IfOk result (λ replies. vec_len replies ≡ 16) }
+    ensures run { IfOk result (λ replies. RunsTo state.old.schema lines (history_of state.new) replies.items) }
+{
+    let mut replies = no_replies(alloc)?;
+    let mut left = lines.into_vec();
+    left.reverse();
+    while let Some(line) = take_line(&mut left) {
+        run_line(alloc, state, &mut replies, line)?;
+    }
+    Ok(replies)
+}
+
+/// Runs the lines of a script in their order, where none of them writes rows: any sessions, with their transactions. The outcome is the history, and a
+/// transcript for each session that has a line. A SELECT takes the time of all rows of the store, any other line constant time, and on average the room for its entry. The `Err` is want of memory.
+pub fn drive_call(alloc: Global, script: Script) -> Result<Outcome, Memory>
+    requires { list_all is_taken script.lines ≡ true }
+    ensures { IfOk result (λ run. IsRightRun script run) }
+{
+    runs_in_order_are_right();
+    let Script {
+        options,
+        schema,
+        lines,
+    } = script;
+    let mut state = State::new(alloc, schema, options)?;
+    let replies = run_lines(alloc, &mut state, lines)?;
+    let transcripts = transcripts(alloc, replies)?;
+    Ok(Outcome {
+        history: state.into_log(),
+        transcripts,
+    })
+}

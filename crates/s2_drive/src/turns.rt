@@ -1,0 +1,93 @@
+//! The turn of a line.
+ghost use Rattle.std.specs.Prelude.{◌≡◌, ◌<◌, ◌≤◌, true, length, IfOk};
+ghost use Rattle.s2_model.specs.Answer.{answer};
+ghost use Rattle.s2_model.specs.History.{view};
+ghost use Rattle.s2_model.specs.declared.statements.Stmt.TheVariants as stmt;
+ghost use Rattle.s2_model.specs.Legal.{is_end};
+ghost use Rattle.s2_state.specs.States.{history_of};
+ghost use Rattle.s2_state.specs.Good.{Good};
+ghost use Rattle.s2_txn.specs.Says.{SaysOrMemory, SameTable};
+ghost use Rattle.s2_drive.specs.Runs.{is_taken_stmt, is_taken};
+ghost use Rattle.s2_drive.specs.Turns.{read_time, Told, TakesTurn};
+
+use s2_model::{Line, Logged, Refusal, Reply, Said, Select, Stmt};
+use s2_plain::answer;
+use s2_state::State;
+use s2_txn::{begin, begin_read_only, commit, rollback};
+use s2_value::Memory;
+use std::alloc::Global;
+
+fn is_end(stmt: &Stmt) -> bool
+    ensures { result ≡ is_end stmt.now }
+{
+    match stmt {
+        Stmt::Commit | Stmt::Rollback => true,
+        _ => false,
+    }
+}
+
+/// When the statement reads: at its session's pin, unless it ends the transaction, else at the end of the history.
+fn read_time(state: &State, session: u8, stmt: &Stmt) -> u64
+    requires { session < 17 }
+    ensures { result ≡ read_time (history_of state.now) session stmt.now }
+{
+    if is_end(stmt) {
+        return state.front();
+    }
+    match state.pin_of(session) {
+        Some(pin) => pin,
+        None => state.front(),
+    }
+}
+
+/// The rows that the session sees, as the SELECT shows them.
+fn select(alloc: Global, state: &State, session: u8, select: &Select) -> Result<Reply, Memory>
+    requires session { session < 17 }
+    requires good { Good state.now }
+    ensures { IfOk result (λ reply. reply ≡ Reply.Rows (answer select.now (view (history_of state.now) session))) }
+{
+    let r = match state.pin_of(session) {
+        Some(pin) => pin,
+        None => state.front(),
+    };
+    let seen = state.snapshot(alloc, session, r)?;
+    Ok(Reply::Rows(answer(alloc, select, seen.rows.as_slice())?))
+}
+
+/// What the session answers to a statement that writes no rows. A reply that needs memory which isn't there is a refusal, and nothing is changed then.
+fn reply(alloc: Global, state: &mut State, session: u8, stmt: &Stmt) -> Reply
+    requires session { (0 < session) × (session < 17) }
+    requires good { Good state.old }
+    requires taken { is_taken_stmt stmt.now ≡ true }
+    ensures good { Good state.new }
+    ensures table { SameTable state.old state.new }
+    ensures told { Told state.old.schema session stmt.now result (history_of state.old) (history_of state.new) }
+{
+    match stmt {
+        Stmt::Select(wanted) => match select(alloc, state, session, wanted.get()) {
+            Ok(reply) => reply,
+            Err(_) => Reply::Refused(Refusal::Memory),
+        },
+        Stmt::Begin => begin(state, session),
+        Stmt::BeginReadOnly => begin_read_only(state, session),
+        Stmt::Commit => commit(state, session),
+        Stmt::Rollback => rollback(state, session),
+        _ => Reply::Nothing,
+    }
+}
+
+/// The line's statement is answered, at the end of the history so far or at its session's pin, and done.
+pub fn turn(alloc: Global, state: &mut State, line: &Line) -> Said
+    requires good { Good state.old }
+    requires taken { is_taken line.now ≡ true }
+    ensures good { Good state.new }
+    ensures table { SameTable state.old state.new }
+    ensures turn { TakesTurn state.old.schema line.now result (history_of state.old) (history_of state.new) }
+{
+    let r = read_time(state, line.session, &line.stmt);
+    Said {
+        r,
+        faults: 0,
+        reply: reply(alloc, state, line.session, &line.stmt),
+    }
+}
