@@ -1,0 +1,9 @@
+pub mod Reading
+pub mod Rows
+pub mod Parts
+pub mod Checks
+pub mod Places
+pub mod Runs
+pub mod Cells
+pub mod Spells
+pub mod Written

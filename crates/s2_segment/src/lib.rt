@@ -1,0 +1,22 @@
+//! Segment files: rows in column blocks and index blocks, written, and read in place.
+#![tactic(auto)]
+
+mod blocks;
+mod cells;
+mod columns;
+mod faults;
+mod head;
+mod indexes;
+mod laws;
+mod order;
+mod rows;
+mod view;
+mod writing;
+
+pub use faults::SegErr;
+pub use laws::{
+    indexes_are_of_the_rows, one_file_spells_one_list, read_files_are_spelled,
+    spelled_files_are_read,
+};
+pub use view::View;
+pub use writing::write;
