@@ -1,7 +1,7 @@
 -- What is lexed of a line, one token after the other.
 use Rattle.std.proofs.Common.{◌≡◌, ℕ, zero, suc, ◌+◌, ◌-◌, ◌<◌, Bool, true, false, cond, eqb, List, [], ◌∷◌, ◌++◌, length, take, drop, Option, Some, None, refl, sym, ap, subst, ◌∙◌, arith, append_assoc, length-append, length-drop}
 use Rattle.std.specs.List.{prefix_len, flat_map}
-use Rattle.std.specs.Option.{option_or}
+use Rattle.std.specs.Option.{option_map, option_or}
 use Rattle.std.proofs.Math.Seq.{drop-append_seam}
 use Rattle.std.proofs.lemmas.List.{append-nil, take-append-drop}
 use Rattle.s2_value.specs.RowText.{quoted_byte}
@@ -177,3 +177,36 @@ rest_shortens bytes t after e = omega (arith, token_shortens bytes t after e, le
 pub refused_none : (e : Fault) (read : Option (Token × List ℕ)) → e ≡ fault.BadToken → Fails e read → read ≡ None
 refused_none fault.BadToken read h none = none
 refused_none fault.Memory read h none = absurd cc
+
+-- ---- the first token
+
+mapped : (t : Token) (read : Option (List Token)) → (read >>= λ later. Some (t ∷ later)) ≡ option_map (λ later. t ∷ later) read
+mapped t None = refl
+mapped t (Some later) = refl
+
+-- the line's blanks are passed over
+abbrev pub StartsAt : List ℕ → List ℕ → Type 0
+StartsAt line start = start ≡ drop (prefix_len is_blank line) line
+
+start_begun : (line start : List ℕ) → StartsAt line start → prefix_len is_blank start ≡ 0
+start_begun line start e = ap (prefix_len is_blank) e ∙ begun line
+
+start_lexed : (line start : List ℕ) → StartsAt line start → lexed line ≡ lexed start
+start_lexed line start e = sym (past_blanks line) ∙ ap lexed (sym e)
+
+pub first_read : (line start : List ℕ) (t : Token) (after : List ℕ) → StartsAt line start → token_at start ≡ Some (t, after) → lexed line ≡ option_map (λ later. t ∷ later) (lexed after)
+first_read line start t after e read = start_lexed line start e ∙ lexed_token start t after (start_begun line start e) read ∙ mapped t (lexed after)
+
+pub first_shortens : (line start : List ℕ) (t : Token) (after : List ℕ) → StartsAt line start → token_at start ≡ Some (t, after) → length after < length line
+first_shortens line start t after e read = omega (arith, token_shortens start t after read, ap length e, length-drop (prefix_len is_blank line) line)
+
+none_lexed : (start : List ℕ) → length start ≡ 0 → lexed start ≡ Some []
+unfolding lexed lexed_after
+none_lexed [] none = refl
+none_lexed (b ∷ start) none = absurd (omega arith)
+
+pub first_none : (line start : List ℕ) → StartsAt line start → length start ≡ 0 → lexed line ≡ Some []
+first_none line start e none = start_lexed line start e ∙ none_lexed start none
+
+pub first_bad : (line start : List ℕ) → StartsAt line start → 0 < length start → token_at start ≡ None → lexed line ≡ None
+first_bad line start e some none = start_lexed line start e ∙ lexed_none start some (start_begun line start e) none

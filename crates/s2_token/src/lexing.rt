@@ -1,7 +1,7 @@
 //! The tokens of a line's bytes.
-ghost use Rattle.std.specs.Prelude.{◌≡◌, ◌≤◌, ◌<◌, ℕ, true, Some, min, length, take, drop, IfOk, slice_index};
+ghost use Rattle.std.specs.Prelude.{◌≡◌, ◌≤◌, ◌<◌, ◌∷◌, ℕ, true, [], Some, min, length, take, drop, IfOk, slice_index};
 ghost use Rattle.std.specs.List.{prefix_len};
-ghost use Rattle.std.specs.Option.{option_map};
+ghost use Rattle.std.specs.Option.{option_map, IfNone, IfSome};
 ghost use Rattle.std.specs.Result.{IsErrOf};
 ghost use Rattle.std.specs.Str.Parse.{digits_value};
 ghost use Rattle.s2_token.specs.Words.{is_digit, is_word_byte};
@@ -213,4 +213,20 @@ pub fn tokens(alloc: Global, line: &[u8]) -> Result<Vec<Token>, Fault>
         rest = past_blanks(after);
     }
     Ok(tokens)
+}
+
+/// The first token of a line, after spaces and tabs, and the bytes after it; `None` where only spaces and tabs are left. `BadToken` is given only where no token begins there.
+/// The tokens of a line are its first one and then those of the bytes after it.
+pub fn first_token(alloc: Global, line: &[u8]) -> Result<Option<(Token, &[u8])>, Fault>
+    ensures first { IfOk result (λ found. IfSome found (λ x. lexed line.now ≡ option_map (λ later. x.0 ∷ later) (lexed x.1.now))) }
+    ensures shorter { IfOk result (λ found. IfSome found (λ x. length x.1.now < length line.now)) }
+    ensures none { IfOk result (λ found. IfNone found (lexed line.now ≡ Some [])) }
+    ensures bad { IsErrOf result Fault.BadToken → lexed line.now ≡ None }
+{
+    let start = past_blanks(line);
+    if start.is_empty() {
+        return Ok(None);
+    }
+    let (token, after) = token(alloc, start)?;
+    Ok(Some((token, after)))
 }
