@@ -2,8 +2,10 @@
 #![tactic(auto)]
 
 mod bytes;
+mod inserts;
 mod judging;
 mod laws;
+mod misses;
 mod reading;
 mod stops;
 #[cfg(test)]

@@ -1,4 +1,5 @@
 //! Whole scripts, and scripts with one fault.
+use crate::inserts::insert;
 use crate::{Lines, Stop, read_lines};
 use s2_judge::Kind;
 use std::alloc::Global;
@@ -78,5 +79,32 @@ fn a_script_too_long(rt: HostRuntime) -> Result<(), Fail> {
     let bytes = blanks(rt.alloc(), 16_777_217)?;
     let found = told(read_lines(rt.alloc(), &bytes));
     assert_eq!(rt; found, Some((0, Kind::TooLong)));
+    Ok(())
+}
+
+const INSERTS: [&[u8]; 4] = [
+    b"1: INSERT INTO t VALUES (1)",
+    b" 2 :insert\tinto t values(- 1,'it''s' ) , ( 2, '' ) ; ",
+    b"99999999999999999999: INSERT INTO t VALUES (1, 2), (3);",
+    b"1: INSERT INTO t VALUES (1), (2), (3), (-4);",
+];
+
+const OTHERS: [&[u8]; 6] = [
+    b"1: INSERT INTO t VALUES",
+    b"1: INSERT INTO t VALUES (1),",
+    b"1: INSERT INTO t VALUES (1) ; ;",
+    b"1: INSERT INTO t VALUES ()",
+    b"1: INSERT INTO t VALUES (1) $",
+    b"1: DELETE FROM t",
+];
+
+#[test]
+fn inserts_read_without_a_list_of_tokens(rt: HostRuntime) -> Result<(), Fail> {
+    for bytes in INSERTS {
+        assert!(rt; insert(rt.alloc(), bytes).is_ok(), "at {bytes:?}");
+    }
+    for bytes in OTHERS {
+        assert!(rt; insert(rt.alloc(), bytes).is_err(), "at {bytes:?}");
+    }
     Ok(())
 }
