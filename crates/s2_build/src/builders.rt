@@ -24,14 +24,9 @@ pub struct Builder {
     lines: LineList,
 }
 
-fn line(
-    alloc: Global,
-    schema: &Option<Schema>,
-    session: u64,
-    raw: &RawStmt,
-) -> Result<Line, Unbuilt>
-    requires { AreShallow raw.now }
-    ensures { Gives (λ x. x) result (line_of (cols_of (option_map parts_of schema.now)) session raw.now) }
+fn line(alloc: Global, schema: &Option<Schema>, session: u64, raw: RawStmt) -> Result<Line, Unbuilt>
+    requires { AreShallow raw }
+    ensures { Gives (λ x. x) result (line_of (cols_of (option_map parts_of schema.now)) session raw) }
 {
     if session < 1 || 16 < session {
         return Err(Unbuilt::Unresolved);
@@ -43,9 +38,9 @@ fn line(
     })
 }
 
-fn statement(alloc: Global, schema: &Option<Schema>, raw: &RawStmt) -> Result<Stmt, Unbuilt>
-    requires { AreShallow raw.now }
-    ensures { Gives (λ x. x) result (stmt_of (cols_of (option_map parts_of schema.now)) raw.now) }
+fn statement(alloc: Global, schema: &Option<Schema>, raw: RawStmt) -> Result<Stmt, Unbuilt>
+    requires { AreShallow raw }
+    ensures { Gives (λ x. x) result (stmt_of (cols_of (option_map parts_of schema.now)) raw) }
 {
     match schema {
         Some(schema) => within(alloc, schema, raw),
@@ -53,9 +48,9 @@ fn statement(alloc: Global, schema: &Option<Schema>, raw: &RawStmt) -> Result<St
     }
 }
 
-fn within(alloc: Global, schema: &Schema, raw: &RawStmt) -> Result<Stmt, Unbuilt>
-    requires { AreShallow raw.now }
-    ensures { Gives (λ x. x) result (stmt_of schema.now.cols raw.now) }
+fn within(alloc: Global, schema: &Schema, raw: RawStmt) -> Result<Stmt, Unbuilt>
+    requires { AreShallow raw }
+    ensures { Gives (λ x. x) result (stmt_of schema.now.cols raw) }
 {
     stmt(alloc, schema.cols.as_slice(), raw)
 }
@@ -74,14 +69,15 @@ impl Builder {
 
     /// Adds what one more line means. `Unresolved` comes exactly where it means nothing: a name is no column, a literal
     /// no value, or a number or a list outside its limits. A predicate within the limits on nesting and comparisons is
-    /// asked for, since what is built is as deep as its tree. The time is near-linear in the line.
-    pub fn take(&mut self, alloc: Global, raw: &Raw) -> Result<(), Unbuilt>
-        requires { IsShallowLine raw.now }
-        ensures { Gives (λ _. draft self.new) result (drafted (draft self.old) raw.now) }
+    /// asked for, since what is built is as deep as its tree. The time is near-linear in the line, whose tuples are let go
+    /// as their rows are made.
+    pub fn take(&mut self, alloc: Global, raw: Raw) -> Result<(), Unbuilt>
+        requires { IsShallowLine raw }
+        ensures { Gives (λ _. draft self.new) result (drafted (draft self.old) raw) }
     {
         match raw {
             RawOf::Option { name, value } => {
-                self.options = with_option(self.options, name.as_slice(), *value);
+                self.options = with_option(self.options, name.as_slice(), value);
                 Ok(())
             }
             RawOf::Create {
@@ -94,7 +90,7 @@ impl Builder {
                 Ok(())
             }
             RawOf::Session { session, stmt } => {
-                let made = line(alloc, &self.schema, *session, stmt)?;
+                let made = line(alloc, &self.schema, session, stmt)?;
                 self.lines.add(made)?;
                 Ok(())
             }

@@ -1,12 +1,12 @@
 //! Statements.
 ghost use Rattle.std.specs.Prelude.{◌≡◌, ◌≤◌, [], length, if◌then◌else◌};
 ghost use Rattle.s2_line.specs.declared.forms.RawStmtOf.TheVariants as raw;
-ghost use Rattle.s2_build.specs.Each.{Gives};
+ghost use Rattle.s2_build.specs.Each.{Gives, each as all_of};
 ghost use Rattle.s2_build.specs.Statements.{row_of, flush_of, merge_of, mark_of, stmt_of};
 ghost use Rattle.s2_build.specs.Drafts.{IsShallow, AreShallow};
 
 use crate::conditions::condition;
-use crate::each::{Part, Values, each};
+use crate::each::{Values, each};
 use crate::selects::{Aggregates, Order, items};
 use crate::sets::Sets;
 use s2_line::{Phase, RawAgg, RawBy, RawItems, RawSet, RawStmt, RawStmtOf, Tuple};
@@ -16,26 +16,30 @@ use s2_value::{Col, Row, Seq};
 use sqlite_items::Boxed;
 use std::alloc::Global;
 
-/// The rows of an `INSERT`.
-struct Rows;
-
-impl Part for Rows {
-    type From = Tuple;
-
-    type Made = Row;
-
-    ghost meaning = { λ _ tuple. row_of tuple };
-
-    fn make(alloc: Global, cols: &[Col], from: &Tuple) -> Result<Row, Unbuilt> {
-        each::<Values>(alloc, cols, from.as_slice())
-    }
+/// The row that a tuple means.
+fn row(alloc: Global, tuple: Tuple) -> Result<Row, Unbuilt>
+    ensures { Gives (λ x. x) result (row_of tuple) }
+{
+    each::<Values>(alloc, &[], tuple.as_slice())
 }
 
-fn insert(alloc: Global, cols: &[Col], tuples: &[Tuple]) -> Result<Stmt, Unbuilt>
-    requires { length cols.now ≤ 16 }
-    ensures { Gives (λ x. x) result (stmt_of cols.now (raw.Insert [] tuples.now)) }
+/// The rows that tuples mean. Each tuple is let go as soon as its row is made, so that the rows take up the memory of the tuples.
+fn rows(alloc: Global, tuples: Seq<Tuple>) -> Result<Seq<Row>, Unbuilt>
+    ensures { Gives (λ x. x) result (all_of row_of tuples) }
 {
-    Ok(Stmt::Insert(each::<Rows>(alloc, cols, tuples)?))
+    let mut rows = Seq::from_vec(Vec::with_capacity(alloc, tuples.len())?);
+    let mut left = tuples.into_vec().into_iter();
+    while let Some(tuple) = left.next() {
+        let row = row(alloc, tuple)?;
+        rows.add(row)?;
+    }
+    Ok(rows)
+}
+
+fn insert(alloc: Global, tuples: Seq<Tuple>) -> Result<Stmt, Unbuilt>
+    ensures { Gives (λ x. x) result (stmt_of [] (raw.Insert [] tuples)) }
+{
+    Ok(Stmt::Insert(rows(alloc, tuples)?))
 }
 
 fn update(
@@ -151,36 +155,36 @@ fn begin(read_only: bool) -> Stmt
 }
 
 /// The statement that is written.
-pub fn stmt(alloc: Global, cols: &[Col], stmt: &RawStmt) -> Result<Stmt, Unbuilt>
+pub fn stmt(alloc: Global, cols: &[Col], stmt: RawStmt) -> Result<Stmt, Unbuilt>
     requires columns { length cols.now ≤ 16 }
-    requires shallow { AreShallow stmt.now }
-    ensures { Gives (λ x. x) result (stmt_of cols.now stmt.now) }
+    requires shallow { AreShallow stmt }
+    ensures { Gives (λ x. x) result (stmt_of cols.now stmt) }
 {
     match stmt {
-        RawStmtOf::Insert { tuples, .. } => insert(alloc, cols, tuples.as_slice()),
-        RawStmtOf::Update { sets, wheres, .. } => update(alloc, cols, sets.as_slice(), wheres),
-        RawStmtOf::Delete { wheres, .. } => delete(alloc, cols, wheres),
+        RawStmtOf::Insert { tuples, .. } => insert(alloc, tuples),
+        RawStmtOf::Update { sets, wheres, .. } => update(alloc, cols, sets.as_slice(), &wheres),
+        RawStmtOf::Delete { wheres, .. } => delete(alloc, cols, &wheres),
         RawStmtOf::Select {
             items,
             wheres,
             order,
             limit,
             ..
-        } => select(alloc, cols, items, wheres, order.as_slice(), *limit),
+        } => select(alloc, cols, &items, &wheres, order.as_slice(), limit),
         RawStmtOf::Aggregate {
             aggregates,
             wheres,
             ..
-        } => aggregate(alloc, cols, aggregates.as_slice(), wheres),
-        RawStmtOf::Begin { read_only } => Ok(begin(*read_only)),
+        } => aggregate(alloc, cols, aggregates.as_slice(), &wheres),
+        RawStmtOf::Begin { read_only } => Ok(begin(read_only)),
         RawStmtOf::Commit => Ok(Stmt::Commit),
         RawStmtOf::Rollback => Ok(Stmt::Rollback),
-        RawStmtOf::Flush(step) => Ok(flush(*step)),
-        RawStmtOf::Merge(step) => Ok(merge(*step)),
+        RawStmtOf::Flush(step) => Ok(flush(step)),
+        RawStmtOf::Merge(step) => Ok(merge(step)),
         RawStmtOf::Upload => Ok(Stmt::Upload),
         RawStmtOf::Evict => Ok(Stmt::Evict),
         RawStmtOf::Vacuum => Ok(Stmt::Vacuum),
-        RawStmtOf::Mark(n) => Ok(Stmt::Mark(mark(*n)?)),
-        RawStmtOf::After(n) => Ok(Stmt::After(mark(*n)?)),
+        RawStmtOf::Mark(n) => Ok(Stmt::Mark(mark(n)?)),
+        RawStmtOf::After(n) => Ok(Stmt::After(mark(n)?)),
     }
 }

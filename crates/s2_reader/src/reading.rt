@@ -47,19 +47,19 @@ impl Reader {
     }
 
     /// Adds a line without a fault.
-    fn keep(&mut self, alloc: Global, raw: &Raw) -> Result<(), Memory>
+    fn keep(&mut self, alloc: Global, raw: Raw) -> Result<(), Memory>
         requires room { self.old.next < 2 ^ 63 }
-        requires shallow { IsShallowLine raw.now }
-        requires goes { CanGo self.old.known (draft self.old.builder) raw.now Goes }
-        ensures step { OnOk result (Advances self.old.known (draft self.old.builder) (Verdict.Fine raw.now) self.new.known (draft self.new.builder)) }
+        requires shallow { IsShallowLine raw }
+        requires goes { CanGo self.old.known (draft self.old.builder) raw Goes }
+        ensures step { OnOk result (Advances self.old.known (draft self.old.builder) (Verdict.Fine raw) self.new.known (draft self.new.builder)) }
         ensures next { OnOk result (self.new.next ≡ self.old.next + 1) }
     {
+        self.known.after(alloc, &raw)?;
         match self.builder.take(alloc, raw) {
             Ok(()) => {}
             Err(Unbuilt::Memory) => return Err(AllocError),
             Err(Unbuilt::Unresolved) => unreachable!(),
         }
-        self.known.after(alloc, raw)?;
         self.next += 1;
         Ok(())
     }
@@ -82,7 +82,7 @@ impl Reader {
                 line: self.next,
                 kind,
             }),
-            Verdict::Fine(raw) => Ok(self.keep(alloc, &raw)?),
+            Verdict::Fine(raw) => Ok(self.keep(alloc, raw)?),
         }
     }
 
