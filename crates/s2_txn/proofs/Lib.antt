@@ -1,4 +1,16 @@
+pub mod SharedValues
 pub mod Steps
 pub mod Unrefused
 pub mod WriteSteps
 pub mod Items
+pub mod Uniques
+pub mod Committed
+pub mod Left
+pub mod Taking
+pub mod Others
+pub mod Written
+pub mod KeyOrder
+pub mod Planned
+pub mod Keyed
+pub mod Settled
+pub mod Plans

@@ -45,7 +45,7 @@ any_in test (c ∷ cs) e =
     more : Found test cs → Found test (c ∷ cs)
     more f = record { change = f.change; among = inr f.among; passes = f.passes }
 
-first_none : (a b : Option Refusal) → option_or a b ≡ None → (a ≡ None) × (b ≡ None)
+pub first_none : (a b : Option Refusal) → option_or a b ≡ None → (a ≡ None) × (b ≡ None)
 first_none None b e = (refl, e)
 first_none (Some x) b e = absurd (cc)
 
@@ -124,7 +124,7 @@ from_none {X} f n (y ∷ xs) i x e at =
     go zero a none later = let same : y ≡ x = cc in (n, ap (f n) (sym same) ∙ none)
     go (suc j) a none later = later j a
 
-find_none : (p : ℕ → Bool) (xs : List ℕ) → find p xs ≡ None → list_any p xs ≡ false
+pub find_none : (p : ℕ → Bool) (xs : List ℕ) → find p xs ≡ None → list_any p xs ≡ false
 find_none p [] e = refl
 find_none p (x ∷ xs) e = go (p x) (λ f. find_none p xs f) e
   where
@@ -132,7 +132,7 @@ find_none p (x ∷ xs) e = go (p x) (λ f. find_none p xs f) e
     go true ih f = absurd (cc)
     go false ih f = ih f
 
-map_none : (f : ℕ → Refusal) (o : Option ℕ) → option_map f o ≡ None → o ≡ None
+pub map_none : (f : ℕ → Refusal) (o : Option ℕ) → option_map f o ≡ None → o ≡ None
 map_none f None e = refl
 map_none f (Some x) e = absurd (cc)
 

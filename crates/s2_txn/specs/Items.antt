@@ -1,6 +1,8 @@
 -- What a write hands to the row store and to the lock table.
-use Rattle.std.specs.Prelude.{ℕ, suc, List, [], ◌∷◌, ◌++◌, Option, Some, None, flat_map}
+use Rattle.std.specs.Prelude.{ℕ, suc, Bool, true, List, [], ◌∷◌, ◌++◌, Option, Some, None, flat_map}
 use Rattle.s2_value.specs.declared.values.Value.{Value}
+use Rattle.s2_value.specs.declared.schemas.Schema.{Schema}
+use Rattle.s2_value.specs.Schemas.{fits}
 use Rattle.s2_value.specs.Rows.{key_of}
 use Rattle.s2_model.specs.declared.entries.Change.{Change}
 use Rattle.s2_model.specs.Table.{Table, RowOf, row_at, number_of}
@@ -25,3 +27,8 @@ change_items keys rows c = row_items keys (row_at rows (number_of c)) ++ row_ite
 
 abbrev pub all_items : List (List ℕ) → Table → List Change → List (ℕ × List Value)
 all_items keys rows cs = flat_map (change_items keys rows) cs
+
+-- the row, if there is one, fits the table
+abbrev pub option_fits : Schema → Option RowOf → Bool
+option_fits schema None = true
+option_fits schema (Some row) = fits schema row

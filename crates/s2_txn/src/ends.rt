@@ -11,8 +11,8 @@ ghost use Rattle.s2_txn.specs.Says.{Says, SameTable};
 use s2_model::{Entry, Logged, Refusal, Reply, What};
 use s2_state::State;
 
-// The actor's open writes take effect, and it holds nothing any more.
-fn commit_writes(s: &mut State, actor: u8)
+/// The actor's open writes take effect, and it holds nothing any more.
+pub(crate) fn commit_writes(s: &mut State, actor: u8)
     requires actor { (0 < actor) × (actor < 17) }
     requires room { 0 < room_of s.old }
     requires short { length (history_of s.old) < 2 ^ 63 }

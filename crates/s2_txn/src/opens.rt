@@ -13,7 +13,7 @@ use s2_state::State;
 use s2_value::Memory;
 
 /// The longest history to which a statement may still add entries that can be refused.
-const LAST_LENGTH: u64 = 4_194_240;
+pub(crate) const LAST_LENGTH: u64 = 4_194_240;
 
 /// An entry that opens a transaction, and the end of each of sixteen.
 const ROOM: u32 = 17;
