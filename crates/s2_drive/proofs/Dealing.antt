@@ -6,16 +6,18 @@ use Rattle.std.proofs.lemmas.Bool.{and_parts, false≢true}
 use Rattle.std.proofs.lemmas.Bool.Decides.{nat_tests}
 use Rattle.s2_value.specs.declared.schemas.Schema.{Schema}
 use Rattle.s2_model.specs.declared.statements.Stmt.{Stmt}
-use Rattle.s2_model.specs.declared.statements.Stmt.TheVariants.{Select, Begin, BeginReadOnly, Commit, Rollback}
+use Rattle.s2_model.specs.declared.statements.Stmt.TheVariants.{Insert, Update, Delete, Select, Begin, BeginReadOnly, Commit, Rollback}
 use Rattle.s2_model.specs.declared.scripts.Line.{Line}
 use Rattle.s2_model.specs.declared.outcomes.Said.{Said}
 use Rattle.s2_model.specs.declared.outcomes.Transcript.{Transcript}
 use Rattle.s2_model.specs.Held.{sessions}
 use Rattle.s2_model.specs.History.{History, extended, is_session}
-use Rattle.s2_model.specs.Legal.{is_of_session, has_verdict}
+use Rattle.s2_model.specs.Legal.{is_of_session, is_end, has_verdict}
 use Rattle.s2_model.specs.Driven.{Drives, said_by}
 use Rattle.s2_model.proofs.InOrder.{Drives-more}
 use Rattle.s2_state.specs.declared.states.State.{State}
+use Rattle.s2_plain.specs.Script.{is_plain_stmt}
+use Rattle.s2_txn.specs.Refusals.{is_write}
 use Rattle.s2_txn.specs.Says.{SameTable}
 use Rattle.s2_drive.specs.Runs.{is_spoken, is_taken, is_taken_stmt, transcripts_of}
 use Rattle.s2_drive.specs.Dealt.{spoken_from, Deals, RunsTo, RunsOn}
@@ -85,9 +87,9 @@ map_same : (f g : ℕ → List Said) (ks : List ℕ) → ((k : ℕ) → f k ≡ 
 map_same f g [] same = refl
 map_same f g (k ∷ ks) same = ap₂ (λ (x : List Said) xs. x ∷ xs) (same k) (map_same f g ks same)
 
-pub session_range : (l : Line) → is_taken l ≡ true → (1 ≤ l.session) × (l.session ≤ 16)
-session_range l taken =
-    let parts = and_parts (is_session l.session) (is_taken_stmt l.stmt) taken in
+pub session_range : (schema : Schema) (l : Line) → is_taken schema l ≡ true → (1 ≤ l.session) × (l.session ≤ 16)
+session_range schema l taken =
+    let parts = and_parts (is_session l.session) (is_taken_stmt schema l.stmt) taken in
     let range = and_parts (nat_le 1 l.session) (nat_le l.session 16) parts.0 in
     (low (l.session) range.0, high (l.session) range.1)
   where
@@ -97,10 +99,10 @@ session_range l taken =
     high : (n : ℕ) → nat_le n 16 ≡ true → n ≤ 16
     high n e = grind (arith, nat_tests)
 
-pub runs_more : (schema : Schema) (done : List Line) (l : Line) (before after : History) (replies replies' : List (List Said)) → is_taken l ≡ true
+pub runs_more : (schema : Schema) (done : List Line) (l : Line) (before after : History) (replies replies' : List (List Said)) → is_taken schema l ≡ true
     → RunsTo schema done before replies → Deals schema l before after replies replies' → RunsTo schema (done ++ l ∷ []) after replies'
 runs_more schema done l before after replies replies' spoken runs deals =
-    let range = session_range l spoken in
+    let range = session_range schema l spoken in
     let i = l.session - 1 in
     let f = λ (k : ℕ). said_by k done runs.saids in
     let d = deals.said in
@@ -114,7 +116,7 @@ runs_more schema done l before after replies replies' spoken runs deals =
           ∙ sym (map_same _ _ sessions (λ j. said_more schema j done runs.saids [] before l d runs.run));
     }
 
-pub runs_on : (schema : Schema) (lines rest : List Line) (l : Line) (before after : History) (replies replies' : List (List Said)) → is_taken l ≡ true
+pub runs_on : (schema : Schema) (lines rest : List Line) (l : Line) (before after : History) (replies replies' : List (List Said)) → is_taken schema l ≡ true
     → RunsOn schema lines (l ∷ rest) before replies → Deals schema l before after replies replies' → RunsOn schema lines rest after replies'
 runs_on schema lines rest l before after replies replies' spoken runs deals = record {
   done = runs.done ++ l ∷ [];
@@ -176,20 +178,37 @@ transcripts_are schema lines H replies runs =
 
 -- such lines have verdicts
 
-taken_verdict : (stmt : Stmt) → is_taken_stmt stmt ≡ true → has_verdict stmt ≡ true
-taken_verdict (Select select) e = refl
-taken_verdict Begin e = refl
-taken_verdict BeginReadOnly e = refl
-taken_verdict Commit e = refl
-taken_verdict Rollback e = refl
-taken_verdict _ e = absurd (false≢true e)
+pub taken_verdict : (schema : Schema) (stmt : Stmt) → is_taken_stmt schema stmt ≡ true → has_verdict stmt ≡ true
+taken_verdict schema (Insert rows) e = refl
+taken_verdict schema (Update sets pred) e = refl
+taken_verdict schema (Delete pred) e = refl
+taken_verdict schema (Select select) e = refl
+taken_verdict schema Begin e = refl
+taken_verdict schema BeginReadOnly e = refl
+taken_verdict schema Commit e = refl
+taken_verdict schema Rollback e = refl
+taken_verdict schema _ e = absurd (false≢true e)
 
-pub all_spoken : (ls : List Line) → list_all is_taken ls ≡ true → list_all is_spoken ls ≡ true
-all_spoken [] e = refl
-all_spoken (l ∷ ls) e =
-    let both = and_parts (is_taken l) (list_all is_taken ls) e in
-    let parts = and_parts (is_session l.session) (is_taken_stmt l.stmt) both.0 in
-    rw (parts.0, taken_verdict l.stmt parts.1, all_spoken ls both.1) refl
+pub all_spoken : (schema : Schema) (ls : List Line) → list_all (is_taken schema) ls ≡ true → list_all is_spoken ls ≡ true
+all_spoken schema [] e = refl
+all_spoken schema (l ∷ ls) e =
+    let both = and_parts (is_taken schema l) (list_all (is_taken schema) ls) e in
+    let parts = and_parts (is_session l.session) (is_taken_stmt schema l.stmt) both.0 in
+    rw (parts.0, taken_verdict schema l.stmt parts.1, all_spoken schema ls both.1) refl
+
+-- a write among them is one whose rows and values fit the table
+
+pub write_fits : (schema : Schema) (stmt : Stmt) → is_write stmt ≡ true → is_taken_stmt schema stmt ≡ true → is_plain_stmt schema stmt ≡ true
+write_fits schema (Insert rows) w e = e
+write_fits schema (Update sets pred) w e = e
+write_fits schema (Delete pred) w e = e
+write_fits schema _ w e = absurd (false≢true w)
+
+pub write_may_fail : (stmt : Stmt) → is_write stmt ≡ true → is_end stmt ≡ false
+write_may_fail (Insert rows) w = refl
+write_may_fail (Update sets pred) w = refl
+write_may_fail (Delete pred) w = refl
+write_may_fail _ w = absurd (false≢true w)
 
 -- the table stays
 

@@ -1,9 +1,10 @@
 -- The outcome of a run in the order of the lines, and the law that it is right.
-use Rattle.std.specs.Prelude.{◌≡◌, ℕ, Bool, true, false, List, [], map, ◌&&◌}
+use Rattle.std.specs.Prelude.{◌≡◌, ℕ, Bool, true, List, [], map, ◌&&◌}
 use Rattle.std.specs.List.{list_all}
+use Rattle.s2_value.specs.declared.schemas.Schema.{Schema}
 use Rattle.s2_model.specs.declared.entries.Entry.{Entry}
 use Rattle.s2_model.specs.declared.statements.Stmt.{Stmt}
-use Rattle.s2_model.specs.declared.statements.Stmt.TheVariants.{Select, Begin, BeginReadOnly, Commit, Rollback}
+use Rattle.s2_model.specs.declared.statements.Stmt.TheVariants.{Begin, BeginReadOnly, Commit, Rollback}
 use Rattle.s2_model.specs.declared.scripts.Line.{Line}
 use Rattle.s2_model.specs.declared.scripts.Script.{Script}
 use Rattle.s2_model.specs.declared.outcomes.Said.{Said}
@@ -12,23 +13,23 @@ use Rattle.s2_model.specs.History.{history, is_session}
 use Rattle.s2_model.specs.Fits.{AllFit}
 use Rattle.s2_model.specs.Legal.{has_verdict, sessions_in}
 use Rattle.s2_model.specs.Driven.{Drives, IsRightRun, said_by}
+use Rattle.s2_plain.specs.Script.{is_plain_stmt}
 
 -- a line of a session whose statement has a verdict
 abbrev pub is_spoken : Line → Bool
 is_spoken line = is_session line.session && has_verdict line.stmt
 
--- a statement that writes no rows, and whose reply is a verdict
-abbrev pub is_taken_stmt : Stmt → Bool
-is_taken_stmt (Select select) = true
-is_taken_stmt Begin = true
-is_taken_stmt BeginReadOnly = true
-is_taken_stmt Commit = true
-is_taken_stmt Rollback = true
-is_taken_stmt _ = false
+-- a statement that opens or ends a transaction, or a SELECT or a write, whose rows and values fit the table
+abbrev pub is_taken_stmt : Schema → Stmt → Bool
+is_taken_stmt schema Begin = true
+is_taken_stmt schema BeginReadOnly = true
+is_taken_stmt schema Commit = true
+is_taken_stmt schema Rollback = true
+is_taken_stmt schema stmt = is_plain_stmt schema stmt
 
 -- a line of a session with such a statement
-abbrev pub is_taken : Line → Bool
-is_taken line = is_session line.session && is_taken_stmt line.stmt
+abbrev pub is_taken : Schema → Line → Bool
+is_taken schema line = is_session line.session && is_taken_stmt schema line.stmt
 
 -- the replies to a session's lines, with no fault of a port
 abbrev pub transcript_of : List Line → List Said → ℕ → Transcript

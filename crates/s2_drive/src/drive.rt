@@ -25,21 +25,22 @@ fn run_line(
     line: Line,
 ) -> Result<(), Memory>
     requires good { Good state.old }
-    requires taken { is_taken line ≡ true }
+    requires taken { is_taken state.old.schema line ≡ true }
     requires sessions { vec_len replies.old ≡ 16 }
     ensures good { Good state.new }
     ensures table { SameTable state.old state.new }
     ensures sessions { vec_len replies.new ≡ 16 }
     ensures turn { OnOk result (Deals state.old.schema line (history_of state.old) (history_of state.new) replies.old.items replies.new.items) }
 {
-    let said = turn(alloc, state, &line);
-    put(replies, line.session, said)
+    let session = line.session;
+    let said = turn(alloc, state, line);
+    put(replies, session, said)
 }
 
 fn run_lines(alloc: Global, state: &mut State, lines: LineList) -> Result<Vec<SaidList>, Memory>
     requires good { Good state.old }
     requires empty { history_of state.old ≡ [] }
-    requires taken { list_all is_taken lines ≡ true }
+    requires taken { list_all (is_taken state.old.schema) lines ≡ true }
     ensures good { Good state.new }
     ensures table { SameTable state.old state.new }
     ensures sessions { IfOk result (λ replies. vec_len replies ≡ 16) }
@@ -54,10 +55,11 @@ fn run_lines(alloc: Global, state: &mut State, lines: LineList) -> Result<Vec<Sa
     Ok(replies)
 }
 
-/// Runs the lines of a script in their order, where none of them writes rows: any sessions, with their transactions. The outcome is the history, and a
-/// transcript for each session that has a line. A SELECT takes the time of all rows of the store, any other line constant time, and on average the room for its entry. The `Err` is want of memory.
+/// Runs the lines of a script in their order: any sessions, with their transactions. The outcome is the history, and a transcript for each session that has a line.
+/// A SELECT takes the time of all rows of the store. An UPDATE or a DELETE does too, but where its condition fixes a key it looks up the rows that have it. An INSERT takes
+/// the time of its rows, with a few look-ups for each unique key. COMMIT and ROLLBACK take the time of what their transaction changed. The `Err` is want of memory.
 pub fn drive_call(alloc: Global, script: Script) -> Result<Outcome, Memory>
-    requires { list_all is_taken script.lines ≡ true }
+    requires { list_all (is_taken script.schema) script.lines ≡ true }
     ensures { IfOk result (λ run. IsRightRun script run) }
 {
     runs_in_order_are_right();

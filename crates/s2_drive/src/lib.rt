@@ -1,4 +1,4 @@
-//! Scripts of several sessions run in the order of their lines, without threads, on the state of the engine. Statements that write rows aren't taken yet.
+//! Scripts of several sessions run in the order of their lines, without threads, on the state of the engine.
 #![tactic(auto)]
 
 mod checks;

@@ -21,7 +21,7 @@ returns c =
     let fits : AllFit script.schema script.options (history_of last) =
     subst (λ (o : Options). AllFit script.schema o (history_of last)) (c.run_lines.ensures.table.options ∙ c.in_ok-state.ensures.options)
     (subst (λ (s : Schema). AllFit s last.options (history_of last)) (c.run_lines.ensures.table.schema ∙ c.in_ok-state.ensures.schema) c.run_lines.ensures.good.log.fits) in
-    let right = c.runs_in_order_are_right.ensures script entries runs.saids (all_spoken script.lines c.requires)
+    let right = c.runs_in_order_are_right.ensures script entries runs.saids (all_spoken script.schema script.lines c.requires)
     (subst (AllFit script.schema script.options) (sym whole) fits)
     (subst (Drives script.schema [] script.lines runs.saids) (sym whole) runs.run) in
     subst (λ (ts : List Transcript). IsRightRun script (record { history = entries; transcripts = ts }))

@@ -1,4 +1,4 @@
-use Rattle.std.proofs.Common.{◌≡◌, [], reverse, sym, ap, subst, ◌∙◌}
+use Rattle.std.proofs.Common.{◌≡◌, true, [], reverse, sym, ap, subst, ◌∙◌}
 use Rattle.std.specs.List.{list_all}
 use Rattle.std.proofs.lemmas.Bool.{and_parts}
 use Rattle.std.proofs.lemmas.List.{reverse-reverse}
@@ -15,7 +15,7 @@ loop-line-init c =
     record {
       good = c.requires.good;
       table = no_table_change c.args.state.now;
-      taken = ap (list_all is_taken) items ∙ c.requires.taken;
+      taken = ap (list_all (is_taken c.args.state.now.schema)) items ∙ c.requires.taken;
       sessions = c.in_ok-replies.ensures.len;
       run = subst (λ ls. RunsOn c.args.state.now.schema c.args.lines ls (history_of c.args.state.now) c.in_ok-replies.replies.items) (sym items)
           (runs_first c.args.state.now.schema c.args.lines (history_of c.args.state.now) c.in_ok-replies.replies.items c.requires.empty c.in_ok-replies.ensures.items);
@@ -24,7 +24,9 @@ loop-line-init c =
 pub run_line-requires-clause-taken : goal.run_line-requires-clause-taken
 run_line-requires-clause-taken c =
     let rest = reverse c.take_line.new.left.items in
-    (and_parts (is_taken c.in-Some.line) (list_all is_taken rest) (sym (ap (list_all is_taken) c.in-Some.ensures) ∙ c.loop-line.invariant.taken)).0
+    let schema = c.args.state.now.schema in
+    subst (λ (s : Schema). is_taken s c.in-Some.line ≡ true) (sym c.loop-line.invariant.table.schema)
+    (and_parts (is_taken schema c.in-Some.line) (list_all (is_taken schema) rest) (sym (ap (list_all (is_taken schema)) c.in-Some.ensures) ∙ c.loop-line.invariant.taken)).0
 
 pub loop-line-preserved : goal.loop-line-preserved
 loop-line-preserved c =
@@ -33,7 +35,7 @@ loop-line-preserved c =
     let after = c.run_line.new.state in
     let line = c.in-Some.line in
     let rest = reverse c.take_line.new.left.items in
-    let was = and_parts (is_taken line) (list_all is_taken rest) (sym (ap (list_all is_taken) c.in-Some.ensures) ∙ c.loop-line.invariant.taken) in
+    let was = and_parts (is_taken schema line) (list_all (is_taken schema) rest) (sym (ap (list_all (is_taken schema)) c.in-Some.ensures) ∙ c.loop-line.invariant.taken) in
     let runs = subst (λ ls. RunsOn schema c.args.lines ls (history_of before) c.loop-line.replies.items) c.in-Some.ensures c.loop-line.invariant.run in
     let deals = subst (λ (s : Schema). Deals s line (history_of before) (history_of after) c.loop-line.replies.items c.run_line.new.replies.items) c.loop-line.invariant.table.schema c.in_ok-run_line.ensures.turn in
     record {

@@ -11,7 +11,7 @@ abbrev pub invariant-loop-line : goal.invariant-loop-line
 invariant-loop-line l = record {
   good : Good l.state;
   table : SameTable l.fn.state l.state;
-  taken : list_all is_taken (reverse l.left.items) ≡ true;
+  taken : list_all (is_taken l.fn.state.schema) (reverse l.left.items) ≡ true;
   sessions : vec_len l.replies ≡ 16;
   run : RunsOn l.fn.state.schema l.fn.lines (reverse l.left.items) (history_of l.state) l.replies.items;
 }
