@@ -4,7 +4,7 @@ ghost use Rattle.std.specs.Option.{option_copied};
 ghost use Rattle.s2_segindex.specs.Reading.{Gives, rest_of};
 ghost use Rattle.s2_segindex.specs.Groups.{offsets_at_key};
 ghost use Rattle.s2_segindex.specs.Blocks.{parts_at, index_at};
-ghost use Rattle.s2_segindex.specs.Places.{offset_bytes};
+ghost use Rattle.s2_segindex.specs.Places.{offset_bytes, groups_in, IsIndex};
 
 use crate::IndexErr;
 use crate::groups::split_groups;
@@ -57,6 +57,14 @@ impl<'a> Index<'a> {
             }),
             [_, ..] => Err(IndexErr::Trailing),
         }
+    }
+
+    /// The index of keys of `width` columns in a block that was read before, without its checks. It takes constant time.
+    pub fn again(width: usize, bytes: &'a [u8]) -> Index<'a>
+        requires { IsIndex width bytes.now }
+        ensures { result ≡ groups_in width bytes.now }
+    {
+        Index { width, bytes }
     }
 
     /// The offsets of the rows with this key, each in two bytes, the lowest first; None exactly where no group has the

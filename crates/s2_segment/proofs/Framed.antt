@@ -63,7 +63,7 @@ block_spelled bytes x b h =
       rest_bytes = subst (λ (y : List ℕ × List ℕ). IsBytes y.1) p.is (IsBytes-drop g.first.0 g.first.1 later_bytes);
     }
 
-block_read : (block rest : List ℕ) → IsShort block → block_at (framed block ++ rest) ≡ Ok (block, rest)
+pub block_read : (block rest : List ℕ) → IsShort block → block_at (framed block ++ rest) ≡ Ok (block, rest)
 unfolding block_at
 block_read block rest s =
     let n = length block in

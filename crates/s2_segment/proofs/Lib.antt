@@ -6,3 +6,9 @@ pub mod Heads
 pub mod Framed
 pub mod Whole
 pub mod Pieces
+pub mod Skips
+pub mod Judged
+pub mod Same
+pub mod Best
+pub mod Written
+pub mod Zones

@@ -103,7 +103,7 @@ narrow_more i content p l e s h =
     push [] h = rw (lt p.0 18446744073709551616 s) refl
     push (q ∷ ps) h = let b = both (is_narrow q.0) (list_all is_narrow (row_numbers ps)) h in rw (b.0, push ps b.1) refl
 
-narrow_all : (ids : List ℕ) → list_all is_narrow ids ≡ true → AllByRecursion (λ i. i < 18446744073709551616) ids
+pub narrow_all : (ids : List ℕ) → list_all is_narrow ids ≡ true → AllByRecursion (λ i. i < 18446744073709551616) ids
 narrow_all [] h = tt
 narrow_all (i ∷ ids) h = let b = both (is_narrow i) (list_all is_narrow ids) h in (ltb-true i 18446744073709551616 b.0, narrow_all ids b.1)
 

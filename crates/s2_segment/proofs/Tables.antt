@@ -21,7 +21,7 @@ use Rattle.s2_segment.specs.declared.cells.Cells.{Cells}
 use Rattle.s2_segment.specs.Runs.{runs_from, places_of}
 use Rattle.s2_segment.specs.Cells.{bodies, has_at}
 use Rattle.s2_segment.specs.Parts.{Parts, Indexed}
-use Rattle.s2_segment.specs.Checks.{fault_of, fault_in}
+use Rattle.s2_segment.specs.Checks.{fault_of, fault_in, rows_in}
 use Rattle.s2_segment.specs.Places.{has_count, has_width}
 use Rattle.s2_segment.specs.Rows.{RowOf, beside, rows_of, row_at}
 
@@ -213,6 +213,10 @@ key_short n us is sort j h l =
   where
     le : (a b : ℕ) → nat_le a b ≡ true → a ≤ b
     le a b h = grind (arith, nat_tests)
+
+-- the rows of a view
+pub view_rows : (n : ℕ) (ids : List ℕ) (columns : List Body) (indexes : List Indexed) (view : Parts) → record { ids = numbers 8 n ids; columns = columns; indexes = indexes } ≡ view → rows_in view ≡ rows_of n (map values_of columns)
+view_rows n ids columns indexes view e = ap rows_in (sym e) ∙ ap (λ (k : ℕ). rows_of k (map values_of columns)) (length-numbers 8 n ids)
 
 -- what is found wrong with the parts of a view
 pub fault_is : (schema : Schema) (n : ℕ) (ids : List ℕ) (columns : List Body) (indexes : List Indexed) (rows : List RowOf) (view : Parts) → record { ids = numbers 8 n ids; columns = columns; indexes = indexes } ≡ view → rows ≡ rows_of n (map values_of columns) → length rows ≡ n → fault_of schema (zip (numbers 8 (length rows) ids) rows) indexes rows ≡ fault_in schema view

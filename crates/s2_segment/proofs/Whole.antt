@@ -191,3 +191,27 @@ indexes_are schema bytes parts b h =
     let r = spelled_is_read schema (content_of parts) bytes (read_is_spelled schema bytes parts b h) in
     let e : parts ≡ r.parts = same_ok parts r.parts (sym h ∙ r.read) in
     ap (λ (p : Parts). p.indexes) e ∙ r.indexes
+
+-- the parts of a file, not yet checked together
+pub parts_of_file : (schema : Schema) (bytes : List ℕ) (parts : Parts) → file_at schema bytes ≡ Ok parts → parts_at schema bytes ≡ Ok parts
+unfolding file_at
+parts_of_file schema bytes parts h =
+    let g = goes (parts_at schema bytes) (λ (p : Parts). unless_fault (fault_in schema p) p) parts h in
+    let f = no_fault (fault_in schema g.first) g.first parts g.later in
+    g.was ∙ ap Ok f.1
+
+-- a file has as many rows as row numbers
+pub rows_many : (schema : Schema) (bytes : List ℕ) (parts : Parts) → IsBytes bytes → file_at schema bytes ≡ Ok parts → length (rows_in parts) ≡ length parts.ids
+rows_many schema bytes parts b h =
+    let s = parts_spelled schema bytes parts b (parts_of_file schema bytes parts h) in
+    length-rows (length parts.ids) (map values_of parts.columns) s.counts
+
+-- the columns of a file are those of its rows
+pub columns_are : (schema : Schema) (bytes : List ℕ) (parts : Parts) → IsBytes bytes → file_at schema bytes ≡ Ok parts → columns_of (length schema.cols) (rows_of_file (content_of parts)) ≡ map values_of parts.columns
+columns_are schema bytes parts b h =
+    let s = parts_spelled schema bytes parts b (parts_of_file schema bytes parts h) in
+    let columns : List (List Value) = map values_of parts.columns in
+    let rows : List RowOf = rows_in parts in
+    let rows_are : rows_of_file (content_of parts) ≡ rows = rows_zip parts.ids rows (sym (rows_many schema bytes parts b h)) in
+    let width : length columns ≡ length schema.cols = length-map parts.columns values_of ∙ s.many in
+    ap (columns_of (length schema.cols)) rows_are ∙ ap (λ (w : ℕ). columns_of w rows) (sym width) ∙ columns_back (length parts.ids) columns s.counts

@@ -7,3 +7,7 @@ pub mod Runs
 pub mod Cells
 pub mod Spells
 pub mod Written
+pub mod Owned
+pub mod Skips
+pub mod Stats
+pub mod Same

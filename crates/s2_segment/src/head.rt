@@ -103,8 +103,8 @@ fn are_distinct(alloc: Global, ids: &[u8], count: usize) -> Result<bool, Memory>
     Ok(true)
 }
 
-// Whether row numbers are positive and distinct.
-fn are_ids(alloc: Global, ids: &[u8], count: usize) -> Result<bool, Memory>
+/// Whether row numbers are positive and distinct.
+pub(crate) fn are_ids(alloc: Global, ids: &[u8], count: usize) -> Result<bool, Memory>
     requires { length ids.now ≡ 8 * count }
     ensures { IfOk result (λ b. b ≡ are_ids (numbers 8 count ids.now)) }
 {

@@ -5,6 +5,7 @@ ghost use Rattle.s2_value.specs.Schemas.{keys_of};
 ghost use Rattle.s2_model.specs.Files.{AnySchema, AnyRow, rows_of_file};
 ghost use Rattle.s2_segment.specs.Parts.{Parts};
 ghost use Rattle.s2_segment.specs.Checks.{file_at, content_of};
+ghost use Rattle.s2_segment.specs.Stats.{AreZones};
 ghost use Rattle.s2_segment.specs.Spells.{Spells, ReadAs, index_of};
 
 /// A file that spells rows is read, and as these rows.
@@ -25,4 +26,9 @@ pub fn one_file_spells_one_list()
 /// The indexes of a file that is read have exactly the distinct keys of its rows, each with exactly the places of the rows that have it.
 pub fn indexes_are_of_the_rows()
     ensures { (schema : AnySchema) (bytes : List ℕ) (parts : Parts) → IsBytes bytes → file_at schema bytes ≡ Ok parts → parts.indexes ≡ map (index_of (rows_of_file (content_of parts))) (keys_of schema) }
+{}
+
+/// The least and the greatest values of the columns of a file that is read are the zone values of its rows.
+pub fn stats_are_of_the_rows()
+    ensures { (schema : AnySchema) (bytes : List ℕ) (parts : Parts) → IsBytes bytes → file_at schema bytes ≡ Ok parts → AreZones schema parts }
 {}

@@ -4,19 +4,23 @@
 mod blocks;
 mod cells;
 mod columns;
+mod copies;
 mod faults;
 mod head;
 mod indexes;
 mod laws;
 mod order;
+mod owned;
 mod rows;
+mod stats;
 mod view;
 mod writing;
 
 pub use faults::SegErr;
 pub use laws::{
     indexes_are_of_the_rows, one_file_spells_one_list, read_files_are_spelled,
-    spelled_files_are_read,
+    spelled_files_are_read, stats_are_of_the_rows,
 };
+pub use owned::File;
 pub use view::View;
-pub use writing::write;
+pub use writing::{all_fit, are_numbered, are_ordered, write};

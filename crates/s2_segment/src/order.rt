@@ -1,6 +1,5 @@
 //! Rows in file order, and the indexes of rows.
-ghost use Rattle.std.specs.Prelude.{nat_eq, ◌≡◌, ◌≤◌, ◌*◌, true, length, map, zip, IfOk};
-ghost use Rattle.std.specs.Cmp.Lexicographic.{pointwise};
+ghost use Rattle.std.specs.Prelude.{◌≡◌, ◌≤◌, ◌*◌, true, length, map, zip, IfOk};
 ghost use Rattle.std.specs.List.{list_all};
 ghost use Rattle.s2_colbytes.specs.Numbers.{numbers};
 ghost use Rattle.s2_value.specs.Columns.{are_below};
@@ -13,6 +12,7 @@ ghost use Rattle.s2_segment.specs.Places.{seen, has_width};
 ghost use Rattle.s2_segment.specs.Checks.{first_wrong, fault_of};
 
 use crate::SegErr;
+use crate::copies::are_same;
 use crate::indexes::IndexBlock;
 use s2_colbytes::u64_from;
 use s2_segindex::build;
@@ -69,8 +69,8 @@ fn are_in_order_from(schema: &Schema, id: u64, first: &Row, ids: &[u8], rows: &[
     true
 }
 
-// Whether the rows stand in file order, each strictly before the next one.
-fn are_in_order(schema: &Schema, ids: &[u8], rows: &[Row]) -> bool
+/// Whether the rows stand in file order, each strictly before the next one.
+pub(crate) fn are_in_order(schema: &Schema, ids: &[u8], rows: &[Row]) -> bool
     requires whole { length ids.now ≡ 8 * length rows.now }
     requires rows { list_all (has_width (length schema.now.cols)) rows.now ≡ true }
     ensures { result ≡ is_in_file_order schema.now (zip (numbers 8 (length rows.now) ids.now) rows.now) }
@@ -79,13 +79,6 @@ fn are_in_order(schema: &Schema, ids: &[u8], rows: &[Row]) -> bool
         return true;
     };
     are_in_order_from(schema, u64_from(ids, 0), first, ids.split_at(8).1, later)
-}
-
-// Whether the bytes are the same.
-fn are_same(bytes: &[u8], others: &[u8]) -> bool
-    ensures { result ≡ pointwise nat_eq bytes.now others.now }
-{
-    bytes == others
 }
 
 // The first index whose block isn't that of the rows, from 0.

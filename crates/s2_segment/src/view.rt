@@ -3,7 +3,8 @@ ghost use Rattle.std.specs.Prelude.{◌≡◌, ◌<◌, [], length, slice_index_
 ghost use Rattle.s2_value.specs.Schemas.{keys_of};
 ghost use Rattle.s2_segment.specs.Reading.{GivesOrMemory};
 ghost use Rattle.s2_segment.specs.Parts.{parts_at};
-ghost use Rattle.s2_segment.specs.Checks.{file_at, fault_in};
+ghost use Rattle.s2_segment.specs.Checks.{file_at, fault_in, rows_in};
+ghost use Rattle.s2_segment.specs.Stats.{stats_of};
 
 use crate::SegErr;
 use crate::blocks::end;
@@ -12,10 +13,11 @@ use crate::head::{split_head, split_ids};
 use crate::indexes::{IndexBlock, read_indexes};
 use crate::order::find_fault;
 use crate::rows::rows_of;
+use crate::stats::stats_of;
 use s2_colbytes::u64_from;
 use s2_colenc::Column;
 use s2_segindex::Index;
-use s2_value::{Memory, Schema};
+use s2_value::{Memory, Row, Schema, Value};
 use std::alloc::Global;
 use std::marker::Model;
 
@@ -41,9 +43,13 @@ impl<'a> Model for View<'a> {
     ghost invariant = { λ v. IsView v.count v.ids.now v.columns.items };
 }
 
-// The parts of a file, not yet checked together.
+/// The parts of a file, not yet checked together.
 #[tactic(auto, unfolding(crate::specs::Parts::parts_at))]
-fn read_parts<'a>(alloc: Global, schema: &Schema, bytes: &'a [u8]) -> Result<View<'a>, SegErr>
+pub(crate) fn read_parts<'a>(
+    alloc: Global,
+    schema: &Schema,
+    bytes: &'a [u8],
+) -> Result<View<'a>, SegErr>
     ensures gives { GivesOrMemory (λ v. v) result (parts_at schema.now bytes.now) }
     ensures columns { IfOk result (λ v. length v.columns ≡ length schema.now.cols) }
     ensures indexes { IfOk result (λ v. length v.indexes ≡ length (keys_of schema.now)) }
@@ -61,34 +67,58 @@ fn read_parts<'a>(alloc: Global, schema: &Schema, bytes: &'a [u8]) -> Result<Vie
     end(view, rest)
 }
 
+// The rows of a view.
+fn all_rows(alloc: Global, view: &View<'_>) -> Result<Vec<Row>, Memory>
+    ensures { IfOk result (λ rows. rows.items ≡ rows_in view.now) }
+{
+    rows_of(alloc, view.columns.as_slice(), view.count)
+}
+
 // What is wrong with the parts together, if anything.
-fn find_in(alloc: Global, schema: &Schema, view: &View<'_>) -> Result<Option<SegErr>, Memory>
+fn find_in(
+    alloc: Global,
+    schema: &Schema,
+    view: &View<'_>,
+    rows: &[Row],
+) -> Result<Option<SegErr>, Memory>
     requires columns { length view.now.columns ≡ length schema.now.cols }
     requires indexes { length view.now.indexes ≡ length (keys_of schema.now) }
+    requires rows { rows.now ≡ rows_in view.now }
     ensures { IfOk result (λ f. f ≡ fault_in schema.now view.now) }
 {
-    let rows = rows_of(alloc, view.columns.as_slice(), view.count)?;
-    find_fault(
-        alloc,
-        schema,
-        view.ids,
-        rows.as_slice(),
-        view.indexes.as_slice(),
-    )
+    find_fault(alloc, schema, view.ids, rows, view.indexes.as_slice())
+}
+
+/// The file of this table that all the bytes are, and its rows.
+#[tactic(auto, unfolding(crate::specs::Checks::file_at))]
+pub(crate) fn read_with_rows<'a>(
+    alloc: Global,
+    schema: &Schema,
+    bytes: &'a [u8],
+) -> Result<(View<'a>, Vec<Row>), SegErr>
+    ensures gives { GivesOrMemory (λ x. x.0) result (file_at schema.now bytes.now) }
+    ensures rows { IfOk result (λ x. x.1.items ≡ rows_in x.0) }
+    ensures columns { IfOk result (λ x. length x.0.columns ≡ length schema.now.cols) }
+    ensures indexes { IfOk result (λ x. length x.0.indexes ≡ length (keys_of schema.now)) }
+{
+    let view = read_parts(alloc, schema, bytes)?;
+    let rows = all_rows(alloc, &view)?;
+    match find_in(alloc, schema, &view, rows.as_slice())? {
+        Some(err) => Err(err),
+        None => Ok((view, rows)),
+    }
 }
 
 impl<'a> View<'a> {
     /// The file of this table that all the bytes are: the faults of `SegErr` in the order of reading. It takes time for
     /// the bytes that are there and the rows that they spell, whatever their counts say.
-    #[tactic(auto, unfolding(crate::specs::Checks::file_at))]
     pub fn read(alloc: Global, schema: &Schema, bytes: &'a [u8]) -> Result<View<'a>, SegErr>
-        ensures { GivesOrMemory (λ v. v) result (file_at schema.now bytes.now) }
+        ensures gives { GivesOrMemory (λ v. v) result (file_at schema.now bytes.now) }
+        ensures columns { IfOk result (λ v. length v.columns ≡ length schema.now.cols) }
+        ensures indexes { IfOk result (λ v. length v.indexes ≡ length (keys_of schema.now)) }
     {
-        let view = read_parts(alloc, schema, bytes)?;
-        match find_in(alloc, schema, &view)? {
-            Some(err) => Err(err),
-            None => Ok(view),
-        }
+        let (view, _rows) = read_with_rows(alloc, schema, bytes)?;
+        Ok(view)
     }
 
     /// How many rows there are.
@@ -120,5 +150,12 @@ impl<'a> View<'a> {
         ensures { result.now ≡ (slice_index_or self.now.indexes j (result.now, [])).0 }
     {
         &self.indexes[j].index
+    }
+
+    /// The least and the greatest value of each column.
+    pub fn stats(&self, alloc: Global) -> Result<Vec<(Value, Value)>, Memory>
+        ensures { IfOk result (λ stats. stats.items ≡ stats_of self.now) }
+    {
+        stats_of(alloc, self.columns.as_slice(), self.count)
     }
 }

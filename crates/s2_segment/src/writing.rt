@@ -14,7 +14,8 @@ ghost use Rattle.s2_segment.specs.Places.{has_width};
 ghost use Rattle.s2_segment.specs.Spells.{head_of, framed, IsShort, AreColumns, key_blocks, Spells};
 ghost use Rattle.s2_segment.specs.Written.{is_narrow};
 
-use crate::head::MAGIC;
+use crate::head::{MAGIC, are_ids};
+use crate::order::are_in_order;
 use byteorder::{ByteOrder, LittleEndian};
 use s2_colbytes::{put, put_u32};
 use s2_colenc::write_column;
@@ -176,7 +177,42 @@ fn write_blocks(blocks: &[Seq<u8>], out: &mut Vec<u8>) -> Result<(), Memory>
     Ok(())
 }
 
-/// The file of these rows: 1 to 8,192 that fit the schema, with distinct positive numbers, by sort key and then by number.
+/// Whether each row fits the schema.
+pub fn all_fit(schema: &Schema, rows: &[(u64, Row)]) -> bool
+    ensures { result ≡ rows_fit schema.now rows.now }
+{
+    for row in rows {
+        if !schema.fits(&row.1) {
+            return false;
+        }
+    }
+    true
+}
+
+/// Whether the row numbers are positive and distinct.
+pub fn are_numbered(alloc: Global, rows: &[(u64, Row)]) -> Result<bool, Memory>
+    requires { length rows.now ≤ 8192 }
+    ensures { IfOk result (λ b. b ≡ are_ids (row_numbers rows.now)) }
+{
+    let mut ids = Vec::new(alloc);
+    write_ids(rows, &mut ids)?;
+    let right = are_ids(alloc, ids.as_slice(), rows.len())?;
+    Ok(right)
+}
+
+/// Whether the rows stand in file order: by sort key and then by number, each strictly before the next one.
+pub fn are_ordered(alloc: Global, schema: &Schema, rows: &[(u64, Row)]) -> Result<bool, Memory>
+    requires few { length rows.now ≤ 8192 }
+    requires fit { rows_fit schema.now rows.now ≡ true }
+    ensures { IfOk result (λ b. b ≡ is_in_file_order schema.now rows.now) }
+{
+    let mut ids = Vec::new(alloc);
+    write_ids(rows, &mut ids)?;
+    let bare = bare_rows(alloc, rows)?;
+    Ok(are_in_order(schema, ids.as_slice(), bare.as_slice()))
+}
+
+/// The file of these rows: 1 to 8,192 that fit the schema, with distinct positive numbers, by sort key and then by number (`all_fit`, `are_numbered` and `are_ordered` test it).
 /// Each column is as `write_column` writes it; no clause says in which form. A block that is too long for its length word counts as want of memory.
 pub fn write(alloc: Global, schema: &Schema, rows: &[(u64, Row)]) -> Result<Vec<u8>, Memory>
     requires some { 1 ≤ length rows.now }
