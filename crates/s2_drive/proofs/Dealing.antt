@@ -16,7 +16,7 @@ use Rattle.s2_model.specs.Legal.{is_of_session, is_end, has_verdict}
 use Rattle.s2_model.specs.Driven.{Drives, said_by}
 use Rattle.s2_model.proofs.InOrder.{Drives-more}
 use Rattle.s2_state.specs.declared.states.State.{State}
-use Rattle.s2_plain.specs.Script.{is_plain_stmt}
+use Rattle.s2_answer.specs.Suits.{stmt_suits}
 use Rattle.s2_txn.specs.Refusals.{is_write}
 use Rattle.s2_txn.specs.Says.{SameTable}
 use Rattle.s2_drive.specs.Runs.{is_spoken, is_taken, is_taken_stmt, transcripts_of}
@@ -198,7 +198,7 @@ all_spoken schema (l ∷ ls) e =
 
 -- a write among them is one whose rows and values fit the table
 
-pub write_fits : (schema : Schema) (stmt : Stmt) → is_write stmt ≡ true → is_taken_stmt schema stmt ≡ true → is_plain_stmt schema stmt ≡ true
+pub write_fits : (schema : Schema) (stmt : Stmt) → is_write stmt ≡ true → is_taken_stmt schema stmt ≡ true → stmt_suits schema stmt ≡ true
 write_fits schema (Insert rows) w e = e
 write_fits schema (Update sets pred) w e = e
 write_fits schema (Delete pred) w e = e

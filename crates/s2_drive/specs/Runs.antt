@@ -13,7 +13,7 @@ use Rattle.s2_model.specs.History.{history, is_session}
 use Rattle.s2_model.specs.Fits.{AllFit}
 use Rattle.s2_model.specs.Legal.{has_verdict, sessions_in}
 use Rattle.s2_model.specs.Driven.{Drives, IsRightRun, said_by}
-use Rattle.s2_plain.specs.Script.{is_plain_stmt}
+use Rattle.s2_answer.specs.Suits.{stmt_suits}
 
 -- a line of a session whose statement has a verdict
 abbrev pub is_spoken : Line → Bool
@@ -25,7 +25,7 @@ is_taken_stmt schema Begin = true
 is_taken_stmt schema BeginReadOnly = true
 is_taken_stmt schema Commit = true
 is_taken_stmt schema Rollback = true
-is_taken_stmt schema stmt = is_plain_stmt schema stmt
+is_taken_stmt schema stmt = stmt_suits schema stmt
 
 -- a line of a session with such a statement
 abbrev pub is_taken : Schema → Line → Bool

@@ -11,8 +11,8 @@ ghost use Rattle.s2_txn.specs.Says.{SaysOrMemory, SameTable};
 ghost use Rattle.s2_drive.specs.Runs.{is_taken_stmt, is_taken};
 ghost use Rattle.s2_drive.specs.Turns.{read_time, Told, TakesTurn};
 
+use s2_answer::answer;
 use s2_model::{Line, Logged, Refusal, Reply, Said, Select, Stmt};
-use s2_plain::answer;
 use s2_state::State;
 use s2_txn::{begin, begin_read_only, commit, rollback, settle};
 use s2_value::Memory;

@@ -11,7 +11,7 @@ use Rattle.s2_model.specs.Answer.{kept}
 use Rattle.s2_model.specs.Fits.{AllFit}
 use Rattle.s2_model.proofs.Tables.{rises-apply}
 use Rattle.s2_model.proofs.Whole.{sound_at}
-use Rattle.s2_plain.proofs.FoundLemmas.{rises-filter}
+use Rattle.s2_answer.proofs.FoundLemmas.{rises-filter}
 use Rattle.s2_legal.specs.World.{IsWorld, AreTables, open_of, view_in}
 
 -- where the entries fit, at each time and for each actor

@@ -10,8 +10,8 @@ ghost use Rattle.s2_legal.specs.Built.{is_built_stmt, are_built};
 ghost use Rattle.s2_legal.specs.World.{IsWorld, view_in, locked_in, changes_from, write_in, room_in, ruled, is_ruled, is_ruled_refusal};
 
 use crate::world::{World, holder, matching};
+use s2_answer::answer;
 use s2_model::{Change, Refusal, Reply, Select, SetList, Stmt, after};
-use s2_plain::answer;
 use s2_value::{Duplicate, Memory, Row};
 use std::alloc::{AllocError, Global};
 

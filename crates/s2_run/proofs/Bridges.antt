@@ -1,5 +1,5 @@
--- Statements that suit their table are those that the plain engine runs.
-use Rattle.std.proofs.Common.{◌≡◌, ℕ, Bool, true, false, List, [], ◌∷◌, Option, Some, None, length, map, slice_get, option_map, ◌&&◌, ◌==◌, refl, ap, sym, ◌∙◌, subst, arith}
+-- Scripts whose statements suit their table are those that the engine runs.
+use Rattle.std.proofs.Common.{◌≡◌, ℕ, Bool, true, false, List, [], ◌∷◌, Option, Some, None, length, slice_get, option_map, ◌&&◌, refl, ap, sym, ◌∙◌}
 use Rattle.std.specs.List.{AllByRecursion, list_all}
 use Rattle.s2_value.specs.declared.values.ColType.{ColType}
 use Rattle.s2_value.specs.declared.values.ColType.TheVariants as kind
@@ -12,11 +12,13 @@ use Rattle.s2_value.specs.Schemas.{fits}
 use Rattle.s2_model.specs.declared.statements.SetExpr.{SetExpr}
 use Rattle.s2_model.specs.declared.statements.SetExpr.TheVariants.{Given, Column, Plus, Minus}
 use Rattle.s2_model.specs.declared.statements.Stmt.{Stmt}
-use Rattle.s2_model.specs.declared.statements.Stmt.TheVariants.{Insert, Update, Delete, Select}
+use Rattle.s2_model.specs.declared.statements.Stmt.TheVariants.{Insert, Update, Delete, Select, Begin, BeginReadOnly, Commit, Rollback}
 use Rattle.s2_model.specs.declared.scripts.Line.{Line}
 use Rattle.s2_model.specs.declared.scripts.Script.{Script}
-use Rattle.s2_plain.specs.Script.{kind_at, is_kind, kind_of, has_kind, suits_as, suits, is_plain_stmt, is_plain_line, is_plain_script, IsPlainScript}
-use Rattle.s2_resolve.specs.Suits.{TakesValue, HasKind, HaveOneKind, ExprSuits, SetsSuit, StmtSuits, LinesSuit, IsBuiltScript}
+use Rattle.s2_model.specs.History.{is_session}
+use Rattle.s2_answer.specs.Suits.{kind_at, is_kind, kind_of, has_kind, suits_as, suits}
+use Rattle.s2_resolve.specs.Suits.{TakesValue, HasKind, HaveOneKind, ExprSuits, StmtSuits, LinesSuit, IsBuiltScript}
+use Rattle.s2_drive.specs.Runs.{is_taken_stmt, is_taken}
 
 kind_found : (cols : List Col) (c : ℕ) (col : Col) → slice_get cols c ≡ Some col → kind_at cols c ≡ Some col.kind
 kind_found cols c col e = ap (λ (o : Option Col). option_map (λ x. x.kind) o) e
@@ -62,22 +64,22 @@ rows_fit : (schema : Schema) (rows : List (List Value)) → AllByRecursion (λ r
 rows_fit schema [] h = refl
 rows_fit schema (row ∷ rows) h = both _ _ h.0 (rows_fit schema rows h.1)
 
-stmt_plain : (schema : Schema) (stmt : Stmt) → StmtSuits schema.cols stmt → is_plain_stmt schema stmt ≡ true
-stmt_plain schema (Insert rows) h = rows_fit schema rows h
-stmt_plain schema (Update sets pred) h = sets_suit schema.cols sets h.0.0
-stmt_plain schema (Delete pred) h = refl
-stmt_plain schema (Select select) h = refl
-stmt_plain schema _ h = absurd h
+stmt_taken : (schema : Schema) (stmt : Stmt) → StmtSuits schema.cols stmt → is_taken_stmt schema stmt ≡ true
+stmt_taken schema (Insert rows) h = rows_fit schema rows h
+stmt_taken schema (Update sets pred) h = sets_suit schema.cols sets h.0.0
+stmt_taken schema (Delete pred) h = refl
+stmt_taken schema (Select select) h = refl
+stmt_taken schema _ h = absurd h
 
-session_one : (k : ℕ) → k ≡ 1 → (k == 1) ≡ true
-session_one k e = rw e refl
+session_taken : (k : ℕ) → k ≡ 1 → is_session k ≡ true
+session_taken k e = rw e refl
 
-line_plain : (schema : Schema) (line : Line) → (line.session ≡ 1) × StmtSuits schema.cols line.stmt → is_plain_line schema line ≡ true
-line_plain schema line h = both _ _ (session_one line.session h.0) (stmt_plain schema line.stmt h.1)
+line_taken : (schema : Schema) (line : Line) → (line.session ≡ 1) × StmtSuits schema.cols line.stmt → is_taken schema line ≡ true
+line_taken schema line h = both _ _ (session_taken line.session h.0) (stmt_taken schema line.stmt h.1)
 
-lines_plain : (schema : Schema) (lines : List Line) → LinesSuit schema.cols lines → list_all (is_plain_line schema) lines ≡ true
-lines_plain schema [] h = refl
-lines_plain schema (line ∷ lines) h = both _ _ (line_plain schema line h.0) (lines_plain schema lines h.1)
+lines_taken : (schema : Schema) (lines : List Line) → LinesSuit schema.cols lines → list_all (is_taken schema) lines ≡ true
+lines_taken schema [] h = refl
+lines_taken schema (line ∷ lines) h = both _ _ (line_taken schema line h.0) (lines_taken schema lines h.1)
 
-pub plain_script : (script : Script) → IsBuiltScript script → IsPlainScript script
-plain_script script h = both _ _ (ap (λ (u : List (List ℕ)). length u == 0) h.uniques) (lines_plain script.schema script.lines h.lines)
+pub script_taken : (script : Script) → IsBuiltScript script → list_all (is_taken script.schema) script.lines ≡ true
+script_taken script h = lines_taken script.schema script.lines h.lines

@@ -10,5 +10,5 @@ mod top;
 
 pub use endings::Ending;
 pub use s2_check::check_call;
-pub use s2_plain::drive_call;
+pub use s2_drive::drive_call;
 pub use top::s2table;

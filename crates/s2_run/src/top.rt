@@ -12,11 +12,11 @@ ghost use Rattle.s2_run.specs.Top.{most_bytes, Answered, Reads, Comes, Writes, C
 use crate::Ending;
 use crate::texts::{status_of, text_of};
 use s2_check::check_call;
+use s2_drive::drive_call;
 use s2_histproof::{print_history, print_transcripts};
 use s2_judge::Kind;
 use s2_model::{Outcome, Script};
 use s2_outside::{ReadStop, Sink, Source, read_all, write_all};
-use s2_plain::drive_call;
 use s2_reader::{ScriptFault, read_script};
 use s2_value::Memory;
 use s2_words::{Asked, Mode, WordsFault, words as asked_by};

@@ -16,7 +16,7 @@ use Rattle.s2_model.specs.Answer.{kept}
 use Rattle.s2_model.specs.Table.{Table, RowOf, row_at, rises_above}
 use Rattle.s2_model.specs.History.{pin_of, view}
 use Rattle.s2_model.proofs.Tables.{above_low}
-use Rattle.s2_plain.proofs.FoundLemmas.{parts, rises-filter}
+use Rattle.s2_answer.proofs.FoundLemmas.{parts, rises-filter}
 use Rattle.s2_rowstore.specs.declared.chain.Version.{Version}
 use Rattle.s2_rowstore.specs.declared.chain.Slot.{Slot}
 use Rattle.s2_rowstore.specs.Chains.{seen, is_visible, row_at as version_at}

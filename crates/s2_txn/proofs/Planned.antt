@@ -31,9 +31,9 @@ use Rattle.s2_model.proofs.Holders.{holder_is, touched_has}
 use Rattle.s2_model.proofs.WriteStep.{size_some}
 use Rattle.s2_model.proofs.FileRows.{InTable, table_rows}
 use Rattle.s2_model.proofs.Whole.{sound}
-use Rattle.s2_plain.specs.Script.{suits, is_plain_stmt}
-use Rattle.s2_plain.proofs.FoundLemmas.{parts, rises-filter}
-use Rattle.s2_plain.proofs.Fitting.{after_fits}
+use Rattle.s2_answer.specs.Suits.{suits, stmt_suits}
+use Rattle.s2_answer.proofs.FoundLemmas.{parts, rises-filter}
+use Rattle.s2_answer.proofs.Fitting.{after_fits}
 use Rattle.s2_state.specs.declared.states.State.{State}
 use Rattle.s2_state.specs.States.{history_of}
 use Rattle.s2_state.specs.Slots.{last_of}
@@ -203,7 +203,7 @@ rising_write s k (Delete pred) g = rising_by (λ p. Drop p.0) (λ p. refl) s k p
 rising_write s k _ g = refl
 
 -- the rows that it puts fit the schema
-pub fitting_write : (s : State) (k : ℕ) (stmt : Stmt) → Good s → pin_of (history_of s) k ≡ None → is_plain_stmt s.schema stmt ≡ true
+pub fitting_write : (s : State) (k : ℕ) (stmt : Stmt) → Good s → pin_of (history_of s) k ≡ None → stmt_suits s.schema stmt ≡ true
     → list_all (put_fits s.schema) (changes_of s k stmt) ≡ true
 fitting_write s k (Insert xs) g pin form = puts_fit s.schema (next (history_of s)) xs ∙ form
 fitting_write s k (Update sets pred) g pin form = updates_fit s.schema sets (kept pred (view (history_of s) k)) form (each_fits s k pred g pin)
@@ -266,7 +266,7 @@ alone_write s k stmt g pin none =
     alone_by (history_of s) k (changes_of s k stmt) (sound s.schema s.options (history_of s) g.log.fits) (old_write s k stmt g pin (unrefused s k stmt none).free)
 
 -- the law: it fits the history
-pub may_write : (s : State) (k : ℕ) (stmt : Stmt) → Good s → 0 < k → k < 17 → pin_of (history_of s) k ≡ None → is_plain_stmt s.schema stmt ≡ true
+pub may_write : (s : State) (k : ℕ) (stmt : Stmt) → Good s → 0 < k → k < 17 → pin_of (history_of s) k ≡ None → stmt_suits s.schema stmt ≡ true
     → refusal_at s k stmt ≡ None → nat_lt 0 (length (changes_of s k stmt)) ≡ true → WriteFits s.schema (history_of s) k (changes_of s k stmt)
 may_write s k stmt g from to pin form none some = record {
   by = and_from _ _ (session_of k from to) (ap (λ o. not (is_some o)) pin);

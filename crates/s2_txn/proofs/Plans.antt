@@ -17,8 +17,8 @@ use Rattle.s2_model.specs.History.{next, view}
 use Rattle.s2_model.specs.Rows.{matches}
 use Rattle.s2_model.specs.Verdict.{puts_from, locked, most_rows, updated, out_of_range}
 use Rattle.s2_model.proofs.Inserts.{length-puts_from}
-use Rattle.s2_plain.specs.Script.{suits}
-use Rattle.s2_plain.specs.Writes.{Updates}
+use Rattle.s2_answer.specs.Suits.{suits}
+use Rattle.s2_txn.specs.Planning.{Updates}
 use Rattle.s2_state.specs.declared.states.State.{State}
 use Rattle.s2_state.specs.States.{history_of}
 use Rattle.s2_state.specs.Good.{Good}

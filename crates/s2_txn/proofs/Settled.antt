@@ -19,7 +19,7 @@ use Rattle.s2_model.specs.History.{History, is_running, pin_of, next, seen_at, v
 use Rattle.s2_model.specs.Verdict.{Ruled, verdict, write_verdict, write_or, refusal_of, refused, changes, matched, too_many, locked, out_of_range, locked_value, duplicate, moves, move_of, resting_places, last_length, most_rows, updated}
 use Rattle.s2_model.specs.Fits.{WriteFits, put_fits, rise}
 use Rattle.s2_model.specs.Placement.{placement}
-use Rattle.s2_plain.specs.Script.{is_plain_stmt}
+use Rattle.s2_answer.specs.Suits.{stmt_suits}
 use Rattle.s2_state.specs.declared.states.State.{State}
 use Rattle.s2_state.specs.States.{history_of}
 use Rattle.s2_state.specs.Good.{Good}
@@ -164,7 +164,7 @@ early_says s k stmt r write some = inl (record {
 pub record IsPlanned (s : State) (k : ℕ) (stmt : Stmt) (cs : List Change) : Type 0 where
   pub write : is_write stmt ≡ true
   pub early : writing_refusal (history_of s) k ≡ None
-  pub form : is_plain_stmt s.schema stmt ≡ true
+  pub form : stmt_suits s.schema stmt ≡ true
   pub same : cs ≡ changes_of s k stmt
   pub few : too_many (changes_of s k stmt) ≡ None
   pub free : locked (history_of s) k (matched stmt (view (history_of s) k)) ≡ None

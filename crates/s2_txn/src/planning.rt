@@ -6,10 +6,9 @@ ghost use Rattle.s2_model.specs.Predicates.{predicate_of};
 ghost use Rattle.s2_model.specs.Rows.{matches};
 ghost use Rattle.s2_model.specs.Table.{row_at};
 ghost use Rattle.s2_model.specs.Verdict.{puts_from};
-ghost use Rattle.s2_plain.specs.Writes.{Updates};
 ghost use Rattle.s2_state.specs.States.{history_of};
 ghost use Rattle.s2_state.specs.Good.{Good};
-ghost use Rattle.s2_txn.specs.Planning.{FixesColumn, FixesColumns, FixesKey, kept_row, numbered_row, rows_among};
+ghost use Rattle.s2_txn.specs.Planning.{FixesColumn, FixesColumns, FixesKey, kept_row, numbered_row, rows_among, Updates};
 
 use s2_model::{
     Change, ChangeList, Condition, Logged, Op, Pred, Refusal, RowList, SetList, after, matches,

@@ -7,7 +7,7 @@ ghost use Rattle.s2_model.specs.Table.{number_of};
 ghost use Rattle.s2_model.specs.History.{is_running, pin_of};
 ghost use Rattle.s2_model.specs.Verdict.{last_length, write_or};
 ghost use Rattle.s2_model.specs.Fits.{WriteFits, put_fits, rise};
-ghost use Rattle.s2_plain.specs.Script.{suits, is_plain_stmt};
+ghost use Rattle.s2_answer.specs.Suits.{suits, stmt_suits};
 ghost use Rattle.s2_state.specs.States.{history_of};
 ghost use Rattle.s2_state.specs.Good.{Good};
 ghost use Rattle.s2_txn.specs.Looks.{IsLeft};
@@ -148,7 +148,7 @@ fn settled(s: &mut State, alloc: Global, actor: u8, stmt: Stmt) -> Result<Reply,
     requires good { Good s.old }
     requires early { writing_refusal (history_of s.old) actor ≡ None }
     requires write { is_write stmt ≡ true }
-    requires suits { is_plain_stmt s.old.schema stmt ≡ true }
+    requires suits { stmt_suits s.old.schema stmt ≡ true }
     ensures good { Good s.new }
     ensures table { SameTable s.old s.new }
     ensures says { IfOk result (Says s.old s.new actor stmt) }
@@ -169,7 +169,7 @@ pub fn settle(s: &mut State, alloc: Global, actor: u8, stmt: Stmt) -> Reply
     requires actor { (0 < actor) × (actor < 17) }
     requires good { Good s.old }
     requires write { is_write stmt ≡ true }
-    requires suits { is_plain_stmt s.old.schema stmt ≡ true }
+    requires suits { stmt_suits s.old.schema stmt ≡ true }
     ensures good { Good s.new }
     ensures table { SameTable s.old s.new }
     ensures says { SaysOrMemory s.old s.new actor stmt result }

@@ -1,6 +1,6 @@
 use Rattle.std.proofs.Common.{◌≡◌, map, take, drop}
 use Rattle.s2_model.specs.Verdict.{updated, first_some}
-use Rattle.s2_plain.specs.Writes.{out_at}
+use Rattle.s2_txn.specs.Planning.{out_at}
 use Rattle.s2_txn.proofs.planning.updates.Given as goal
 
 abbrev pub invariant-loop-row : goal.invariant-loop-row

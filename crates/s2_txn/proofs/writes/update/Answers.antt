@@ -6,7 +6,7 @@ use Rattle.s2_model.specs.Table.{Table}
 use Rattle.s2_model.specs.Verdict.{locked, most_rows}
 use Rattle.s2_state.specs.States.{history_of}
 use Rattle.s2_model.specs.declared.statements.Stmt.TheVariants.{Update}
-use Rattle.s2_plain.specs.Writes.{Updates}
+use Rattle.s2_txn.specs.Planning.{Updates}
 use Rattle.s2_txn.proofs.Plans.{seen_matching, update_planned, update_out}
 use Rattle.s2_txn.proofs.KeyOrder.{none_if_not}
 use Rattle.s2_txn.proofs.Settled.{IsPlanned, planned_rising, planned_fits, planned_may, planned_says}

@@ -1,7 +1,0 @@
-use Rattle.std.proofs.Common.{◌≡◌, take}
-use Rattle.s2_model.specs.Answer.{kept}
-use Rattle.s2_plain.specs.Found.{seen}
-use Rattle.s2_plain.proofs.found.matching.Given as goal
-
-abbrev pub invariant-loop-row : goal.invariant-loop-row
-invariant-loop-row l = seen l.found.items ≡ kept l.pred (take l.row-index l.rows)

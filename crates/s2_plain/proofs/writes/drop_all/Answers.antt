@@ -1,8 +1,0 @@
-use Rattle.std.proofs.Common.{ℕ, not, rules}
-use Rattle.std.proofs.lemmas.Fn.{filter_same}
-use Rattle.s2_model.specs.Table.{RowOf}
-use Rattle.s2_model.specs.Rows.{matches}
-use Rattle.s2_plain.proofs.writes.drop_all.Goals as goal
-
-pub returns : goal.returns
-returns c = filter_same _ (λ (p : ℕ × RowOf). not (matches c.args.pred.now p.1)) _ (λ x b f k. search rules) _ _ c.retain.ensures.filtered

@@ -1,7 +1,0 @@
-use Rattle.std.proofs.Common.{◌≡◌, map, take}
-use Rattle.s2_model.specs.declared.entries.Change.TheVariants.{Drop}
-use Rattle.s2_plain.specs.Found.{seen}
-use Rattle.s2_plain.proofs.writes.drops.Given as goal
-
-abbrev pub invariant-loop-row : goal.invariant-loop-row
-invariant-loop-row l = l.changes.items ≡ map (λ p. Drop p.0) (seen (take l.row-index l.found))

@@ -1,4 +1,0 @@
-pub mod Found
-pub mod Writes
-pub mod Plain
-pub mod Script
