@@ -56,7 +56,7 @@ fn run_lines(alloc: Global, state: &mut State, lines: LineList) -> Result<Vec<Sa
 }
 
 /// Runs the lines of a script in their order: any sessions, with their transactions. The outcome is the history, and a transcript for each session that has a line.
-/// A SELECT takes the time of all rows of the store. An UPDATE or a DELETE does too, but where its condition fixes a key it looks up the rows that have it. An INSERT takes
+/// A SELECT, an UPDATE or a DELETE takes the time of all rows of the store, but where its condition fixes a key it looks up the rows that have it. An INSERT takes
 /// the time of its rows, with a few look-ups for each unique key. COMMIT and ROLLBACK take the time of what their transaction changed. The `Err` is want of memory.
 pub fn drive_call(alloc: Global, script: Script) -> Result<Outcome, Memory>
     requires { list_all (is_taken script.schema) script.lines ≡ true }

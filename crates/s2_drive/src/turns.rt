@@ -14,7 +14,7 @@ ghost use Rattle.s2_drive.specs.Turns.{read_time, Told, TakesTurn};
 use s2_answer::answer;
 use s2_model::{Line, Logged, Refusal, Reply, Said, Select, Stmt};
 use s2_state::State;
-use s2_txn::{begin, begin_read_only, commit, rollback, settle};
+use s2_txn::{begin, begin_read_only, candidates, commit, rollback, settle};
 use s2_value::Memory;
 use std::alloc::Global;
 
@@ -41,18 +41,14 @@ fn read_time(state: &State, session: u8, stmt: &Stmt) -> u64
     }
 }
 
-/// The rows that the session sees, as the SELECT shows them.
+/// What the SELECT answers over the rows that the session sees.
 fn select(alloc: Global, state: &State, session: u8, select: &Select) -> Result<Reply, Memory>
     requires session { session < 17 }
     requires good { Good state.now }
     ensures { IfOk result (λ reply. reply ≡ Reply.Rows (answer select.now (view (history_of state.now) session))) }
 {
-    let r = match state.pin_of(session) {
-        Some(pin) => pin,
-        None => state.front(),
-    };
-    let seen = state.snapshot(alloc, session, r)?;
-    Ok(Reply::Rows(answer(alloc, select, seen.rows.as_slice())?))
+    let rows = candidates(state, alloc, session, &select.pred)?;
+    Ok(Reply::Rows(answer(alloc, select, rows.as_slice())?))
 }
 
 fn is_write(stmt: &Stmt) -> bool

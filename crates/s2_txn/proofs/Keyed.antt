@@ -1,7 +1,6 @@
 -- The rows that match are among those of a key that the predicate fixes.
 use Rattle.std.proofs.Common.{◌≡◌, ℕ, ◌+◌, ◌<◌, ◌≤◌, Bool, true, false, ◌||◌, cond, ◌==◌, nat_lt, List, [], ◌∷◌, ◌++◌, filter, length, take, get_or, Option, Some, None, is_some, refl, sym, ap, ap₂, subst, ◌∙◌, arith}
 use Rattle.std.specs.List.{list_any, list_all, find}
-use Rattle.std.specs.Prelude.{unwrap_or}
 use Rattle.std.specs.Option.{option_map}
 use Rattle.std.proofs.lemmas.List.{take_more}
 use Rattle.std.proofs.lemmas.Bool.{eqb-true, and_parts, and_from, or_left, or_right}
@@ -14,7 +13,7 @@ use Rattle.s2_model.specs.Predicates.{Predicate, compared}
 use Rattle.s2_model.specs.Rows.{value_at, matches}
 use Rattle.s2_model.specs.Answer.{kept}
 use Rattle.s2_model.specs.Table.{Table, RowOf, row_at, rises_above}
-use Rattle.s2_model.specs.History.{pin_of, view}
+use Rattle.s2_model.specs.History.{view}
 use Rattle.s2_model.proofs.Tables.{above_low}
 use Rattle.s2_answer.proofs.FoundLemmas.{parts, rises-filter}
 use Rattle.s2_rowstore.specs.declared.chain.Version.{Version}
@@ -31,7 +30,7 @@ use Rattle.s2_state.specs.Laws.{read_at}
 use Rattle.s2_state.proofs.KeySteps.{own_key}
 use Rattle.s2_state.proofs.Shown.{shows_rows, view_rises}
 use Rattle.s2_state.proofs.Tables.{is_that_table}
-use Rattle.s2_txn.specs.Planning.{FixesColumn, FixesColumns, kept_row, numbered_row, rows_among}
+use Rattle.s2_txn.specs.Planning.{FixesColumn, FixesColumns, HasMatching, kept_row, numbered_row, rows_among}
 
 -- the row of a number among the rows of a table that match
 
@@ -155,12 +154,28 @@ keyed_rows s k pred j key ids g fixed same rising =
     ∙ named_row s k pred j key n g fixed (row_at (view (history_of s) k) n) refl
     ∙ sym (row_kept pred 0 (view (history_of s) k) (view_rises s g k) n))
 
--- what the store shows to an actor without a pin
-pub row_shown : (s : State) → Good s → (k n r : ℕ) → pin_of (history_of s) k ≡ None → r ≡ length (history_of s)
-    → seen k r (chain s.rows n, slot s.rows n) ≡ row_at (view (history_of s) k) n
-row_shown s g k n r pin time =
-    ap (λ t. seen k t (chain s.rows n, slot s.rows n)) (time ∙ sym (ap (λ o. unwrap_or o (length (history_of s))) pin))
-    ∙ (shows_rows s g).views k n
+-- what the store shows to an actor when it reads
+pub row_shown : (s : State) → Good s → (k n r : ℕ) → r ≡ read_at (history_of s) k → seen k r (chain s.rows n, slot s.rows n) ≡ row_at (view (history_of s) k) n
+row_shown s g k n r time = ap (λ t. seen k t (chain s.rows n, slot s.rows n)) time ∙ (shows_rows s g).views k n
+
+-- rows of which those that match are the view's
+
+kept_twice : (pred : Predicate) (rows : Table) → kept pred (kept pred rows) ≡ kept pred rows
+kept_twice pred [] = refl
+kept_twice pred (p ∷ rows) = go (matches pred p.1) refl (kept_twice pred rows)
+  where
+    go : (b : Bool) → matches pred p.1 ≡ b → kept pred (kept pred rows) ≡ kept pred rows → kept pred (cond b (p ∷ kept pred rows) (kept pred rows)) ≡ cond b (p ∷ kept pred rows) (kept pred rows)
+    go true e ih = rw e (ap (λ xs. p ∷ xs) ih)
+    go false e ih = ih
+
+pub all_match : (s : State) → Good s → (k : ℕ) (pred : Predicate) (rows : Table) → rows ≡ view (history_of s) k → HasMatching pred (view (history_of s) k) rows
+all_match s g k pred rows all = record { rising = ap (rises_above 0) all ∙ view_rises s g k; same = ap (kept pred) all }
+
+pub kept_match : (s : State) → Good s → (k : ℕ) (pred : Predicate) (rows : Table) → rows ≡ kept pred (view (history_of s) k) → HasMatching pred (view (history_of s) k) rows
+kept_match s g k pred rows some = record {
+  rising = ap (rises_above 0) some ∙ rises-filter (λ p. matches pred p.1) 0 (view (history_of s) k) (view_rises s g k);
+  same = ap (kept pred) some ∙ kept_twice pred (view (history_of s) k);
+}
 
 -- an equal comparison fixes its column
 

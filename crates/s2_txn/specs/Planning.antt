@@ -10,7 +10,8 @@ use Rattle.s2_model.specs.declared.replies.Refusal.{Refusal}
 use Rattle.s2_model.specs.declared.replies.Refusal.TheVariants as refusal
 use Rattle.s2_model.specs.Predicates.{Predicate}
 use Rattle.s2_model.specs.Rows.{value_at, matches, after}
-use Rattle.s2_model.specs.Table.{Table, RowOf}
+use Rattle.s2_model.specs.Table.{Table, RowOf, rises_above}
+use Rattle.s2_model.specs.Answer.{kept}
 use Rattle.s2_model.specs.Verdict.{first_some, updated}
 use Rattle.s2_rowstore.specs.Store.{places_of}
 
@@ -39,6 +40,11 @@ numbered_row n (Some row) = (n, row) ∷ []
 -- the rows of these numbers
 abbrev pub rows_among : (ℕ → Option RowOf) → List ℕ → Table
 rows_among look ids = flat_map (λ n. numbered_row n (look n)) ids
+
+-- rows by rising number, of which those that match are those of the table that match
+pub record HasMatching (pred : Predicate) (table rows : Table) : Type 0 where
+  pub rising : rises_above 0 rows ≡ true
+  pub same : kept pred rows ≡ kept pred table
 
 -- the refusal of a row of which a sum leaves 64 bits
 abbrev pub out_at : List (ℕ × SetExpr) → ℕ × RowOf → Option Refusal

@@ -13,4 +13,5 @@ mod writes;
 
 pub use ends::{commit, rollback};
 pub use opens::{begin, begin_read_only};
+pub use planning::candidates;
 pub use writes::settle;

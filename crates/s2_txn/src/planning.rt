@@ -1,14 +1,15 @@
-//! What a write changes: the rows that it matches, and its changes.
+//! The rows that a statement matches, and what a write changes.
 ghost use Rattle.std.specs.Prelude.{◌≡◌, ◌<◌, ◌+◌, ◌^◌, ◌++◌, None, IfOk, IfSome, OnOk, filter, length, map};
 ghost use Rattle.std.specs.Option.{option_copied};
-ghost use Rattle.s2_model.specs.History.{pin_of, view};
+ghost use Rattle.s2_model.specs.History.{view};
 ghost use Rattle.s2_model.specs.Predicates.{predicate_of};
 ghost use Rattle.s2_model.specs.Rows.{matches};
 ghost use Rattle.s2_model.specs.Table.{row_at};
 ghost use Rattle.s2_model.specs.Verdict.{puts_from};
 ghost use Rattle.s2_state.specs.States.{history_of};
 ghost use Rattle.s2_state.specs.Good.{Good};
-ghost use Rattle.s2_txn.specs.Planning.{FixesColumn, FixesColumns, FixesKey, kept_row, numbered_row, rows_among, Updates};
+ghost use Rattle.s2_state.specs.Laws.{read_at};
+ghost use Rattle.s2_txn.specs.Planning.{FixesColumn, FixesColumns, FixesKey, HasMatching, kept_row, numbered_row, rows_among, Updates};
 
 use s2_model::{
     Change, ChangeList, Condition, Logged, Op, Pred, Refusal, RowList, SetList, after, matches,
@@ -24,16 +25,25 @@ fn keep_matching(pred: &Condition, rows: &mut Vec<(u64, Row)>)
     rows.retain(|row| matches(pred, &row.1));
 }
 
-// The rows of the actor's view that match, by a walk over the view.
-fn matching_view(s: &State, alloc: Global, actor: u8, pred: &Condition) -> Result<TableRows, Memory>
-    requires good { Good s.now }
-    requires unpinned { pin_of (history_of s.now) actor ≡ None }
-    ensures { IfOk result (λ rows. rows ≡ filter (λ p. matches pred.now p.1) (view (history_of s.now) actor)) }
+// When the actor reads: at its pin, or else at the end of the history.
+fn read_time(s: &State, actor: u8) -> u64
+    requires { actor < 17 }
+    ensures { result ≡ read_at (history_of s.now) actor }
 {
-    let seen = s.snapshot(alloc, actor, s.front())?;
-    let mut rows = seen.rows.into_vec();
-    keep_matching(pred, &mut rows);
-    Ok(Seq::from_vec(rows))
+    match s.pin_of(actor) {
+        Some(pin) => pin,
+        None => s.front(),
+    }
+}
+
+// All rows of the actor's view.
+fn whole_view(s: &State, alloc: Global, actor: u8) -> Result<TableRows, Memory>
+    requires actor { actor < 17 }
+    requires good { Good s.now }
+    ensures { IfOk result (λ rows. rows ≡ view (history_of s.now) actor) }
+{
+    let seen = s.snapshot(alloc, actor, read_time(s, actor))?;
+    Ok(seen.rows)
 }
 
 // The value to which the predicate fixes the column, by a comparison alone or under ANDs.
@@ -78,11 +88,11 @@ fn find_key(alloc: Global, pred: &Pred, schema: &Schema) -> Result<Option<(usize
 
 // The row of this number in the actor's view.
 fn row_in_view(s: &State, actor: u8, id: u64) -> Option<&Row>
+    requires actor { actor < 17 }
     requires good { Good s.now }
-    requires unpinned { pin_of (history_of s.now) actor ≡ None }
     ensures { option_copied result ≡ row_at (view (history_of s.now) actor) id }
 {
-    s.rows.visible_row(id, actor, s.front())
+    s.rows.visible_row(id, actor, read_time(s, actor))
 }
 
 // A copy of the row of this number, at the end, where the actor's view has one that matches.
@@ -93,8 +103,8 @@ fn add_matching(
     pred: &Condition,
     id: u64,
 ) -> Result<(), Memory>
+    requires actor { actor < 17 }
     requires good { Good s.now }
-    requires unpinned { pin_of (history_of s.now) actor ≡ None }
     ensures { OnOk result (rows.new.items ≡ rows.old.items ++ numbered_row id (kept_row pred.now (row_at (view (history_of s.now) actor) id))) }
 {
     if let Some(row) = row_in_view(s, actor, id) {
@@ -113,8 +123,8 @@ fn matching_among(
     pred: &Condition,
     ids: &[u64],
 ) -> Result<Vec<(u64, Row)>, Memory>
+    requires actor { actor < 17 }
     requires good { Good s.now }
-    requires unpinned { pin_of (history_of s.now) actor ≡ None }
     ensures { IfOk result (λ rows. rows.items ≡ rows_among (λ n. kept_row pred.now (row_at (view (history_of s.now) actor) n)) ids.now) }
 {
     let mut rows = Vec::new(alloc);
@@ -133,8 +143,8 @@ fn matching_key(
     j: usize,
     key: &Key,
 ) -> Result<TableRows, Memory>
+    requires actor { actor < 17 }
     requires good { Good s.now }
-    requires unpinned { pin_of (history_of s.now) actor ≡ None }
     requires fixed { FixesKey s.now.schema pred.now j key.now }
     ensures { IfOk result (λ rows. rows ≡ filter (λ p. matches pred.now p.1) (view (history_of s.now) actor)) }
 {
@@ -143,24 +153,39 @@ fn matching_key(
     Ok(Seq::from_vec(rows))
 }
 
-/// The rows of the actor's view that match, by rising row number. The actor, 1 to 16, is outside a read-only transaction.
+/// Rows by rising number, of which those that match are the rows of the actor's view that match. The actor is 1 to 16.
 ///
-/// Where the predicate fixes each column of a key, only the rows that have it are looked at.
+/// Where the predicate fixes each column of a key with `=`, alone or under ANDs, one look-up finds the rows that have it; else they are all rows of the view.
+pub fn candidates(
+    s: &State,
+    alloc: Global,
+    actor: u8,
+    pred: &Condition,
+) -> Result<TableRows, Memory>
+    requires actor { actor < 17 }
+    requires good { Good s.now }
+    ensures { IfOk result (λ rows. HasMatching pred.now (view (history_of s.now) actor) rows) }
+{
+    match find_key(alloc, pred.pred(), &s.schema)? {
+        Some((j, key)) => matching_key(s, alloc, actor, pred, j, &key),
+        None => whole_view(s, alloc, actor),
+    }
+}
+
+/// The rows of the actor's view that match, by rising row number.
 pub(crate) fn matching(
     s: &State,
     alloc: Global,
     actor: u8,
     pred: &Condition,
 ) -> Result<TableRows, Memory>
-    requires actor { (0 < actor) × (actor < 17) }
+    requires actor { actor < 17 }
     requires good { Good s.now }
-    requires unpinned { pin_of (history_of s.now) actor ≡ None }
     ensures { IfOk result (λ rows. rows ≡ filter (λ p. matches pred.now p.1) (view (history_of s.now) actor)) }
 {
-    match find_key(alloc, pred.pred(), &s.schema)? {
-        Some((j, key)) => matching_key(s, alloc, actor, pred, j, &key),
-        None => matching_view(s, alloc, actor, pred),
-    }
+    let mut rows = candidates(s, alloc, actor, pred)?.into_vec();
+    keep_matching(pred, &mut rows);
+    Ok(Seq::from_vec(rows))
 }
 
 /// A Put of each row, which moves into it, under the numbers from `first` on.
