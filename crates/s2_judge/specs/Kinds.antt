@@ -1,5 +1,5 @@
 -- What can be wrong with a line of the grammar: the kinds of fault in the order in which they are looked for, as tests on the line as it is written.
-use Rattle.std.specs.Prelude.{ℕ, ◌^◌, Bool, true, false, List, [], ◌∷◌, ◌++◌, Option, Some, None, filter, flat_map, map, length, not, nat_le, nat_lt, ◌&&◌, ◌||◌, if◌then◌else◌, ◌==◌, is_some, is_none, codes, slice_index_or, slice_set, replicate}
+use Rattle.std.specs.Prelude.{ℕ, ◌^◌, Bool, true, false, List, [], ◌∷◌, ◌++◌, Option, Some, None, filter, flat_map, map, length, not, nat_le, nat_lt, ◌&&◌, ◌||◌, if◌then◌else◌, is_some, is_none, codes, slice_index_or, slice_set, replicate}
 use Rattle.std.specs.List.{list_any}
 use Rattle.std.specs.Str.{bytes_eq}
 use Rattle.s2_value.specs.declared.values.ColType.{ColType}
@@ -354,19 +354,21 @@ is_job_order known _ = false
 
 -- ---- forms that aren't built
 
--- the table of built forms: INSERT, UPDATE, DELETE and SELECT of session 1, over a table without unique keys
+-- the table of built forms: each option and CREATE TABLE, and in each session INSERT, UPDATE, DELETE, SELECT, BEGIN, COMMIT and ROLLBACK
 abbrev pub is_built_stmt : Statement → Bool
 is_built_stmt (stmt.Insert table tuples) = true
 is_built_stmt (stmt.Update table sets wheres) = true
 is_built_stmt (stmt.Delete table wheres) = true
 is_built_stmt (stmt.Select items table wheres order limit) = true
 is_built_stmt (stmt.Aggregate aggregates table wheres) = true
+is_built_stmt (stmt.Begin read_only) = true
+is_built_stmt stmt.Commit = true
+is_built_stmt stmt.Rollback = true
 is_built_stmt _ = false
 
 abbrev pub is_not_built : Line → Bool
-is_not_built (raw.Option name value) = false
-is_not_built (raw.Create table columns keys) = list_any (λ k. is_unique k.purpose) keys
-is_not_built (raw.Session k s) = not (k == 1 && is_built_stmt s)
+is_not_built (raw.Session k s) = not (is_built_stmt s)
+is_not_built _ = false
 
 -- ---- the first kind that applies
 

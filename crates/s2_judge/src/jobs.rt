@@ -1,11 +1,9 @@
 //! The steps of jobs, and the forms that are built.
 ghost use Rattle.std.specs.Prelude.{◌≡◌};
-ghost use Rattle.std.specs.List.{list_any};
-ghost use Rattle.s2_judge.specs.Kinds.{job_of, is_flushing, is_merging, is_idle, is_out_of_order, is_job_order, job_after, is_built_stmt, is_not_built, is_unique};
+ghost use Rattle.s2_judge.specs.Kinds.{job_of, is_flushing, is_merging, is_idle, is_out_of_order, is_job_order, job_after, is_built_stmt, is_not_built};
 
 use crate::known::{Job, Known};
-use crate::limits::is_unique;
-use s2_line::{Phase, Raw, RawKey, RawOf, RawStmt, RawStmtOf};
+use s2_line::{Phase, Raw, RawOf, RawStmt, RawStmtOf};
 
 /// The job that a session has begun.
 pub fn job_of(jobs: &[Job], session: u64) -> Job
@@ -88,14 +86,11 @@ fn is_built_stmt(stmt: &RawStmt) -> bool
         RawStmtOf::Delete { .. } => true,
         RawStmtOf::Select { .. } => true,
         RawStmtOf::Aggregate { .. } => true,
+        RawStmtOf::Begin { .. } => true,
+        RawStmtOf::Commit => true,
+        RawStmtOf::Rollback => true,
         _ => false,
     }
-}
-
-fn has_unique(keys: &[RawKey]) -> bool
-    ensures { result ≡ list_any (λ k. is_unique k.purpose) keys.now }
-{
-    keys.iter().any(|key| is_unique(key))
 }
 
 /// Whether the line is of a form that isn't built.
@@ -103,8 +98,7 @@ pub fn is_not_built(line: &Raw) -> bool
     ensures { result ≡ is_not_built line.now }
 {
     match line {
-        RawOf::Option { .. } => false,
-        RawOf::Create { keys, .. } => has_unique(keys.as_slice()),
-        RawOf::Session { session, stmt } => !(*session == 1 && is_built_stmt(stmt)),
+        RawOf::Session { stmt, .. } => !is_built_stmt(stmt),
+        _ => false,
     }
 }

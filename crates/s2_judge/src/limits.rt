@@ -31,8 +31,7 @@ impl NameQuestion for LongName {
     }
 }
 
-/// Whether the key is a unique one.
-pub fn is_unique(key: &RawKey) -> bool
+fn is_unique(key: &RawKey) -> bool
     ensures { result ≡ is_unique key.now.purpose }
 {
     match key.purpose {

@@ -26,7 +26,7 @@ fn fault(alloc: Global, known: &Known, text: &[u8]) -> Result<Option<Kind>, Fail
 
 const OPTIONS: [&str; 1] = ["OPTION fanout 4"];
 
-const AT_FIRST: [(&str, Option<Kind>); 25] = [
+const AT_FIRST: [(&str, Option<Kind>); 27] = [
     ("OPTION cache 9223372036854775808", Some(Kind::LiteralRange)),
     ("18446744073709551616: COMMIT", Some(Kind::LiteralRange)),
     ("1: MARK 9223372036854775808", Some(Kind::LiteralRange)),
@@ -72,8 +72,16 @@ const AT_FIRST: [(&str, Option<Kind>); 25] = [
         Some(Kind::RepeatedName),
     ),
     (
-        "CREATE TABLE t (a INT, UNIQUE KEY (a))",
-        Some(Kind::NotBuilt),
+        "CREATE TABLE t (a INT, UNIQUE KEY (b))",
+        Some(Kind::UnknownName),
+    ),
+    (
+        "CREATE TABLE t (a INT, UNIQUE KEY (a), UNIQUE KEY (a), UNIQUE KEY (a), UNIQUE KEY (a), UNIQUE KEY (b))",
+        Some(Kind::Limit),
+    ),
+    (
+        "CREATE TABLE t (a INT, b TEXT, UNIQUE KEY (a), UNIQUE KEY (a), UNIQUE KEY (b, a), UNIQUE KEY (a, b))",
+        None,
     ),
     (
         "CREATE TABLE t (a INT, b TEXT, KEY (b, a), SORT KEY (a))",
@@ -98,7 +106,7 @@ const TABLE: [&str; 4] = [
     "3: MERGE BEGIN",
 ];
 
-const LATER: [(&str, Option<Kind>); 40] = [
+const LATER: [(&str, Option<Kind>); 45] = [
     (
         "1: INSERT INTO t VALUES (9223372036854775808, 'x')",
         Some(Kind::LiteralRange),
@@ -165,7 +173,12 @@ const LATER: [(&str, Option<Kind>); 40] = [
     ("2: FLUSH", Some(Kind::JobOrder)),
     ("2: FLUSH END", Some(Kind::NotBuilt)),
     ("3: MERGE END", Some(Kind::NotBuilt)),
-    ("4: SELECT * FROM t", Some(Kind::NotBuilt)),
+    ("16: SELECT * FROM t", None),
+    ("2: BEGIN", None),
+    ("3: BEGIN READ ONLY", None),
+    ("4: COMMIT", None),
+    ("1: ROLLBACK", None),
+    ("1: VACUUM", Some(Kind::NotBuilt)),
 ];
 
 #[test]
