@@ -1,17 +1,16 @@
 -- A line without a fault means something.
-use Rattle.std.proofs.Common.{◌≡◌, ℕ, ◌+◌, ◌<◌, ◌≤◌, Bool, true, false, List, [], ◌∷◌, ◌++◌, Option, Some, None, length, map, filter, nat_le, not, ◌||◌, ◌&&◌, if◌then◌else◌, ◌==◌, is_some, is_none, refl, sym, ap, subst, ◌∙◌, arith}
+use Rattle.std.proofs.Common.{◌≡◌, ℕ, ◌+◌, Bool, true, false, List, [], ◌∷◌, ◌++◌, Option, Some, None, map, filter, not, ◌||◌, if◌then◌else◌, is_some, is_none, refl, sym, ap, subst}
 use Rattle.std.specs.List.{list_any, AllByRecursion}
-use Rattle.std.proofs.lemmas.Bool.{and_parts}
-use Rattle.std.proofs.lemmas.Bool.Decides.{nat_tests}
 use Rattle.s2_value.specs.Columns.{is_between}
 use Rattle.s2_token.specs.declared.types.Token.{Token}
 use Rattle.s2_token.specs.Lexing.{◌>>=◌}
-use Rattle.s2_pred.specs.Trees.{Tree, IsGrouped}
+use Rattle.s2_pred.specs.Trees.{IsGrouped}
 use Rattle.s2_line.specs.declared.forms.RawColumn.{RawColumn}
 use Rattle.s2_line.specs.declared.forms.RawKey.{RawKey}
 use Rattle.s2_line.specs.declared.forms.RawOf.TheVariants as raw
 use Rattle.s2_line.specs.declared.forms.RawStmtOf.TheVariants as stmt
 use Rattle.s2_line.specs.Words.{IsLine, RawFits}
+use Rattle.s2_model.specs.History.{is_session}
 use Rattle.s2_model.specs.declared.scripts.Line.{Line as Built}
 use Rattle.s2_judge.specs.declared.known.Known.{Known}
 use Rattle.s2_judge.specs.declared.known.Table.{Table}
@@ -19,7 +18,6 @@ use Rattle.s2_judge.specs.declared.kinds.Kind.{Kind}
 use Rattle.s2_judge.specs.declared.kinds.Kind.TheVariants as fault
 use Rattle.s2_judge.specs.Kinds.{Line, Statement, first_of, fault_of, known_after, is_literal_range, is_literal_long, is_misplaced, is_option_value, is_limit, is_unknown_name, is_repeated_name, is_wrong_type, is_job_order, is_not_built, is_wide, is_wide_count, is_wide_stmt, is_long, literals_of, counts_of, columns_of, tests_of, table_of, wheres_of, has_column, has_repeated, is_long_name, has_more, is_unique, is_index, is_sort, is_large_table, has_long_name, is_no_session, has_long_table, is_large_stmt, is_large_tree, is_other_table, is_unknown_in, is_wrong_in, has_wrong, is_wrong_test, is_built_stmt}
 use Rattle.s2_build.specs.Tables.{Parts}
-use Rattle.s2_build.specs.Statements.{stmt_of}
 use Rattle.s2_build.specs.Drafts.{Draft, drafted, line_of, cols_of, with_option}
 use Rattle.s2_clean.specs.Clean.{IsCleanToken}
 use Rattle.s2_resolve.specs.Clean.{IsCleanLine, IsCleanStmt}
@@ -82,7 +80,7 @@ create_next : (known : Known) (d : Draft) (t : Option Table) (p : Option Parts) 
 create_next known d None None table columns keys g off m = (
   record { given = d.given; table = Some m.parts; lines = d.lines },
   rw m.is refl,
-  (m.alike, m.uniques, subst (λ (ls : List Built). LinesSuit m.parts.cols ls) (sym g) tt),
+  (m.alike, subst (λ (ls : List Built). LinesSuit m.parts.cols ls) (sym g) tt),
 )
 create_next known d None (Some p) table columns keys g off m = absurd g
 create_next known d (Some t) p table columns keys g off m = absurd (let bad : true ≡ false = off in cc)
@@ -98,16 +96,14 @@ create_made known table columns keys s clean fits =
     let indexes = neither (has_more 16 columns || has_more 4 (filter (λ k. is_unique k.purpose) keys)) (has_more 8 (filter (λ k. is_index k.purpose) keys)) sorts.0 in
     let counts = neither (has_more 16 columns) (has_more 4 (filter (λ k. is_unique k.purpose) keys)) indexes.0 in
     let once = neither (has_repeated (map (λ c. c.name) columns)) (list_any (λ k. has_repeated k.columns) keys) s.repeated in
-    table_made table columns keys clean.0 clean.1 fits.0 first.0 first.1 counts.0 indexes.1 s.built
+    table_made table columns keys clean.0 clean.1 fits.0 first.0 first.1 counts.0 counts.1 indexes.1
     (record { fits = fits.1; known = s.name; once = once.1; few = wide_keys.1 })
 
 -- ---- a line of a session
 
-session_is : (k : ℕ) (b : Bool) → not (k == 1 && b) ≡ false → (k ≡ 1) × (b ≡ true)
-session_is k b h =
-    let parts = and_parts (k == 1) b (not_false (k == 1 && b) h) in
-    let one : k ≡ 1 = grind (arith, nat_tests) in
-    (one, parts.1)
+-- a session from 1 to 16
+session_is : (k : ℕ) (a b c d : Bool) → (is_no_session k || a || b || c || d) ≡ false → is_session k ≡ true
+session_is k a b c d h = not_false (is_session k) (neither (is_no_session k) a (neither (is_no_session k || a) b (neither (is_no_session k || a || b) c (neither (is_no_session k || a || b || c) d h).0).0).0).0
 
 repeats : (k : ℕ) (s : Statement) → is_repeated_name (raw.Session k s) ≡ false → Repeats s ≡ false
 repeats k s h = elim s as (λ s. is_repeated_name (raw.Session k s) ≡ false → Repeats s ≡ false) [ stmt.Update table sets wheres ↦ λ e. e | _ ↦ λ e. refl ] h
@@ -123,14 +119,14 @@ session_next known d (Some t) (Some p) k s g off u w f c =
     let literals = neither (list_any is_wide (literals_of s)) (list_any is_wide_count (counts_of s)) wide.1 in
     let names = neither (is_other_table t (table_of s)) (list_any (λ name. not (has_column t.columns name)) (columns_of s)) u in
     let types = neither (has_wrong t.columns s) (list_any (is_wrong_test t.columns) (tests_of s)) w in
-    let one = session_is k (is_built_stmt s) f.built in
-    let faultless : Faultless t.columns s = record { wide = literals.0; long = f.long; unknown = names.1; wrong = types.0; tests = types.1; clean = c; built = one.1 } in
+    let within = session_is k (has_long_table (table_of s)) (list_any is_long_name (columns_of s)) (is_large_stmt s) (is_large_tree (wheres_of s)) f.limit in
+    let faultless : Faultless t.columns s = record { wide = literals.0; long = f.long; unknown = names.1; wrong = types.0; tests = types.1; clean = c; built = not_false (is_built_stmt s) f.built } in
     let m = stmt_meant t.columns p.cols s g.0 faultless (repeats k s f.repeated) in
     let line : Built = record { session = k; stmt = m.0 } in
-    let within : is_between 1 16 k ≡ true = rw one.0 refl in (
+    let between : is_between 1 16 k ≡ true = within in (
       record { given = d.given; table = Some p; lines = d.lines ++ line ∷ [] },
-      rw (within, m.1) refl,
-      (g.0, g.1, all_join (λ (l : Built). (l.session ≡ 1) × StmtSuits p.cols l.stmt) d.lines (line ∷ []) g.2 ((one.0, m.2), tt)),
+      rw (between, m.1) refl,
+      (g.0, all_join (λ (l : Built). (is_session l.session ≡ true) × StmtSuits p.cols l.stmt) d.lines (line ∷ []) g.1 ((within, m.2), tt)),
     )
 
 -- ---- lines

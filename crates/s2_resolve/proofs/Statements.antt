@@ -374,9 +374,10 @@ stmt_meant columns cols (stmt.Aggregate aggregates table wheres) h f r =
     let a = each_meant (agg_of cols) (AggSuits cols) aggregates (aggs_meant columns cols aggregates h (own_known columns (stmt.Aggregate aggregates table wheres) f) f.wrong) in
     let p = where_meant columns cols wheres h (where_good columns (stmt.Aggregate aggregates table wheres) wheres refl f.clean f) in
     (built.Select (select_of (items.Aggs a.0) p.0 [] None), rw (a.1, p.1) refl, (a.2, p.2, tt))
-stmt_meant columns cols (stmt.Begin read_only) h f r = absurd (let no : false ≡ true = f.built in cc)
-stmt_meant columns cols stmt.Commit h f r = absurd (let no : false ≡ true = f.built in cc)
-stmt_meant columns cols stmt.Rollback h f r = absurd (let no : false ≡ true = f.built in cc)
+stmt_meant columns cols (stmt.Begin true) h f r = (built.BeginReadOnly, refl, tt)
+stmt_meant columns cols (stmt.Begin false) h f r = (built.Begin, refl, tt)
+stmt_meant columns cols stmt.Commit h f r = (built.Commit, refl, tt)
+stmt_meant columns cols stmt.Rollback h f r = (built.Rollback, refl, tt)
 stmt_meant columns cols (stmt.Flush step) h f r = absurd (let no : false ≡ true = f.built in cc)
 stmt_meant columns cols (stmt.Merge step) h f r = absurd (let no : false ≡ true = f.built in cc)
 stmt_meant columns cols stmt.Upload h f r = absurd (let no : false ≡ true = f.built in cc)

@@ -190,12 +190,6 @@ sort_use use'.Index = refl
 sort_use use'.Unique = refl
 sort_use use'.Sort = refl
 
-none_kept : (keys : List RawKey) → list_any (λ k. is_unique k.purpose) keys ≡ false → Passing use'.Unique keys ≡ []
-none_kept [] h = refl
-none_kept (k ∷ keys) h =
-    let parts = neither (is_unique k.purpose) (list_any (λ j. is_unique j.purpose) keys) h in
-    rw (unique_use k.purpose ∙ parts.0) (none_kept keys parts.1)
-
 first_right : (n : ℕ) (keys : List (List ℕ)) → AllByRecursion (λ key. is_key n key ≡ true) keys → (nat_le (length (first_key keys)) 4 ≡ true) × (are_below n (first_key keys) ≡ true)
 first_right n [] h = (refl, refl)
 first_right n (k ∷ keys) h =
@@ -206,15 +200,14 @@ pub record TableMade (table : List ℕ) (columns : List RawColumn) (keys : List 
   pub parts : Parts
   pub is : created table columns keys ≡ Some parts
   pub alike : AreColumns columns parts.cols
-  pub uniques : parts.uniques ≡ []
 
 some_columns : (columns : List RawColumn) → AreSome Any columns → 0 < length columns
 some_columns [] h = absurd h
 some_columns (c ∷ columns) h = omega arith
 
-schema_ok : (n : ℕ) (indexes : List (List ℕ)) (sort : List ℕ) → is_between 1 16 n ≡ true → nat_le (length indexes) 8 ≡ true → list_all (is_key n) indexes ≡ true
-    → nat_le (length sort) 4 ≡ true → are_below n sort ≡ true → is_schema n [] indexes sort ≡ true
-schema_ok n indexes sort a b c d e = rw (a, b, c, d, e) refl
+schema_ok : (n : ℕ) (uniques indexes : List (List ℕ)) (sort : List ℕ) → is_between 1 16 n ≡ true → nat_le (length uniques) 4 ≡ true → nat_le (length indexes) 8 ≡ true
+    → list_all (is_key n) uniques ≡ true → list_all (is_key n) indexes ≡ true → nat_le (length sort) 4 ≡ true → are_below n sort ≡ true → is_schema n uniques indexes sort ≡ true
+schema_ok n uniques indexes sort a b c d e f g = rw (a, b, c, d, e, f, g) refl
 
 picked : {A : Type 0} (b : Bool) (x : Option A) → b ≡ true → (if b then x else None) ≡ x
 picked true x h = refl
@@ -230,23 +223,35 @@ created_is : (table name : List ℕ) (columns : List RawColumn) (cols : List Col
     → is_between 1 16 (length cols) ≡ true → created table columns keys ≡ keyed name cols keys
 created_is table name columns cols keys n c range = rw (n, c) (picked (is_between 1 16 (length cols)) (keyed name cols keys) range)
 
+-- the keys for a use, as many as are written for it
+record Kept (columns : List RawColumn) (cols : List Col) (purpose : KeyUse) (keys : List RawKey) (p : KeyUse → Bool) : Type 0 where
+  made : List (List ℕ)
+  is : keys_for purpose cols keys ≡ Some made
+  right : AllByRecursion (λ key. is_key (length cols) key ≡ true) made
+  many : length made ≡ length (filter (λ k. p k.purpose) keys)
+
+kept : (columns : List RawColumn) (cols : List Col) (purpose : KeyUse) (keys : List RawKey) (p : KeyUse → Bool) → ((u : KeyUse) → same_use purpose u ≡ p u) → AreColumns columns cols
+    → GoodKeys columns keys → Kept columns cols purpose keys p
+kept columns cols purpose keys p same alike good =
+    let c = counted (key_of cols) (λ key. is_key (length cols) key ≡ true) (Passing purpose keys) (keys_good columns cols purpose keys alike good) in
+    record { made = c.made; is = c.is; right = c.right; many = c.many ∙ ap length (kept_alike (λ k. same_use purpose k.purpose) (λ k. p k.purpose) keys (λ k. same k.purpose)) }
+
 pub table_made : (table : List ℕ) (columns : List RawColumn) (keys : List RawKey) → 0 < length table → AllByRecursion (λ c. 0 < length c.name) columns → AreSome Any columns
-    → is_long_name table ≡ false → list_any (λ c. is_long_name c.name) columns ≡ false → has_more 16 columns ≡ false → has_more 8 (filter (λ k. is_index k.purpose) keys) ≡ false
-    → list_any (λ k. is_unique k.purpose) keys ≡ false → GoodKeys columns keys → TableMade table columns keys
-table_made table columns keys some named filled short shorts few indexed plain good =
+    → is_long_name table ≡ false → list_any (λ c. is_long_name c.name) columns ≡ false → has_more 16 columns ≡ false → has_more 4 (filter (λ k. is_unique k.purpose) keys) ≡ false
+    → has_more 8 (filter (λ k. is_index k.purpose) keys) ≡ false → GoodKeys columns keys → TableMade table columns keys
+table_made table columns keys some named filled short shorts few unique indexed good =
     let c = cols_meant columns named shorts in
     let n = some_columns columns filled in
     let range : is_between 1 16 (length c.cols) ≡ true = rw c.many (grind (arith, nat_tests)) in
-    let i = counted (key_of c.cols) (λ key. is_key (length c.cols) key ≡ true) (Passing use'.Index keys) (keys_good columns c.cols use'.Index keys c.alike good) in
-    let s = counted (key_of c.cols) (λ key. is_key (length c.cols) key ≡ true) (Passing use'.Sort keys) (keys_good columns c.cols use'.Sort keys c.alike good) in
-    let u : keys_for use'.Unique c.cols keys ≡ Some [] = ap (λ (ks : List RawKey). each (key_of c.cols) ks) (none_kept keys plain) in
-    let same : length i.made ≡ length (filter (λ k. is_index k.purpose) keys) = i.many ∙ ap length (kept_alike (λ k. same_use use'.Index k.purpose) (λ k. is_index k.purpose) keys (λ k. index_use k.purpose)) in
-    let eight : nat_le (length i.made) 8 ≡ true = rw same (grind (arith, nat_tests)) in
+    let u = kept columns c.cols use'.Unique keys is_unique unique_use c.alike good in
+    let i = kept columns c.cols use'.Index keys is_index index_use c.alike good in
+    let s = kept columns c.cols use'.Sort keys is_sort sort_use c.alike good in
+    let four : nat_le (length u.made) 4 ≡ true = rw u.many (grind (arith, nat_tests)) in
+    let eight : nat_le (length i.made) 8 ≡ true = rw i.many (grind (arith, nat_tests)) in
     let f = first_right (length c.cols) s.made s.right in
-    let ok = schema_ok (length c.cols) i.made (first_key s.made) range eight (all_keys (length c.cols) i.made i.right) f.0 f.1 in
+    let ok = schema_ok (length c.cols) u.made i.made (first_key s.made) range four eight (all_keys (length c.cols) u.made u.right) (all_keys (length c.cols) i.made i.right) f.0 f.1 in
     record {
-      parts = record { table = table; cols = c.cols; uniques = []; indexes = i.made; sort = first_key s.made };
-      is = created_is table table columns c.cols keys (name_meant table some short) c.is range ∙ keyed_is table c.cols keys [] i.made s.made u i.is s.is ok;
+      parts = record { table = table; cols = c.cols; uniques = u.made; indexes = i.made; sort = first_key s.made };
+      is = created_is table table columns c.cols keys (name_meant table some short) c.is range ∙ keyed_is table c.cols keys u.made i.made s.made u.is i.is s.is ok;
       alike = c.alike;
-      uniques = refl;
     }

@@ -1,5 +1,5 @@
 -- What is known of a script's lines goes with what they mean: each line without a fault means something.
-use Rattle.std.specs.Prelude.{◌≡◌, true, false, List, [], ◌∷◌, Option, Some, None, map}
+use Rattle.std.specs.Prelude.{◌≡◌, List, [], ◌∷◌, Option, Some, None}
 use Rattle.s2_value.specs.declared.schemas.Col.{Col}
 use Rattle.s2_line.specs.declared.forms.RawColumn.{RawColumn}
 use Rattle.s2_model.specs.declared.scripts.Line.{Line}
@@ -18,7 +18,7 @@ AreColumns _ _ = ⊥
 -- no line of a session stands before the table, and each behind it suits it
 abbrev pub TablesGo : Option Table → Option Parts → List Line → Type 0
 TablesGo None None lines = lines ≡ []
-TablesGo (Some table) (Some parts) lines = AreColumns table.columns parts.cols × (parts.uniques ≡ []) × LinesSuit parts.cols lines
+TablesGo (Some table) (Some parts) lines = AreColumns table.columns parts.cols × LinesSuit parts.cols lines
 TablesGo _ _ lines = ⊥
 
 -- what is known goes with the draft

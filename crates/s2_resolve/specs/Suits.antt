@@ -1,5 +1,5 @@
--- Which scripts an engine can run: statements of session 1 that suit the table, which has no unique keys.
-use Rattle.std.specs.Prelude.{◌≡◌, ℕ, ◌<◌, true, List, [], ◌∷◌, Option, Some, None, length, map, slice_get}
+-- Which scripts an engine can run: statements of the sessions 1 to 16 that suit the table.
+use Rattle.std.specs.Prelude.{◌≡◌, ℕ, true, List, Some, map, slice_get}
 use Rattle.std.specs.List.{AllByRecursion}
 use Rattle.s2_value.specs.declared.values.ColType.{ColType}
 use Rattle.s2_value.specs.declared.values.ColType.TheVariants as kind
@@ -7,6 +7,7 @@ use Rattle.s2_value.specs.declared.values.Value.{Value}
 use Rattle.s2_value.specs.declared.schemas.Col.{Col}
 use Rattle.s2_value.specs.Columns.{are_distinct}
 use Rattle.s2_value.specs.Rows.{is_of, fits_columns}
+use Rattle.s2_model.specs.History.{is_session}
 use Rattle.s2_model.specs.Predicates.{Predicate, every_row, compared, one_of, all_of, any_of, none_of}
 use Rattle.s2_model.specs.declared.statements.SetExpr.{SetExpr}
 use Rattle.s2_model.specs.declared.statements.SetExpr.TheVariants.{Given, Column, Plus, Minus}
@@ -67,17 +68,20 @@ ItemsSuit cols Star = Unit {0}
 ItemsSuit cols (Columns places) = AllByRecursion (IsColumn cols) places
 ItemsSuit cols (Aggs aggs) = AllByRecursion (AggSuits cols) aggs
 
--- INSERT of rows that fit, UPDATE, DELETE and SELECT
+-- INSERT of rows that fit, UPDATE, DELETE and SELECT, and BEGIN, COMMIT and ROLLBACK over any table
 abbrev pub StmtSuits : List Col → Stmt → Type 0
 StmtSuits cols (stmt.Insert rows) = AllByRecursion (λ row. fits_columns cols row ≡ true) rows
 StmtSuits cols (stmt.Update sets pred) = SetsSuit cols sets × PredSuits cols pred
 StmtSuits cols (stmt.Delete pred) = PredSuits cols pred
 StmtSuits cols (stmt.Select select) = ItemsSuit cols select.items × PredSuits cols select.pred × AllByRecursion (λ o. IsColumn cols o.0) select.order
+StmtSuits cols stmt.Begin = Unit {0}
+StmtSuits cols stmt.BeginReadOnly = Unit {0}
+StmtSuits cols stmt.Commit = Unit {0}
+StmtSuits cols stmt.Rollback = Unit {0}
 StmtSuits cols _ = ⊥
 
 abbrev pub LinesSuit : List Col → List Line → Type 0
-LinesSuit cols lines = AllByRecursion (λ line. (line.session ≡ 1) × StmtSuits cols line.stmt) lines
+LinesSuit cols lines = AllByRecursion (λ line. (is_session line.session ≡ true) × StmtSuits cols line.stmt) lines
 
 pub record IsBuiltScript (script : Script) : Type 0 where
-  pub uniques : script.schema.uniques ≡ []
   pub lines : LinesSuit script.schema.cols script.lines
