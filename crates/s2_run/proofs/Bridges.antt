@@ -69,13 +69,14 @@ stmt_taken schema (Insert rows) h = rows_fit schema rows h
 stmt_taken schema (Update sets pred) h = sets_suit schema.cols sets h.0.0
 stmt_taken schema (Delete pred) h = refl
 stmt_taken schema (Select select) h = refl
+stmt_taken schema Begin h = refl
+stmt_taken schema BeginReadOnly h = refl
+stmt_taken schema Commit h = refl
+stmt_taken schema Rollback h = refl
 stmt_taken schema _ h = absurd h
 
-session_taken : (k : ℕ) → k ≡ 1 → is_session k ≡ true
-session_taken k e = rw e refl
-
-line_taken : (schema : Schema) (line : Line) → (line.session ≡ 1) × StmtSuits schema.cols line.stmt → is_taken schema line ≡ true
-line_taken schema line h = both _ _ (session_taken line.session h.0) (stmt_taken schema line.stmt h.1)
+line_taken : (schema : Schema) (line : Line) → (is_session line.session ≡ true) × StmtSuits schema.cols line.stmt → is_taken schema line ≡ true
+line_taken schema line h = both _ _ h.0 (stmt_taken schema line.stmt h.1)
 
 lines_taken : (schema : Schema) (lines : List Line) → LinesSuit schema.cols lines → list_all (is_taken schema) lines ≡ true
 lines_taken schema [] h = refl

@@ -20,6 +20,13 @@ const EXTREMES_OUTPUT: &[u8] =
 
 const TABLE: &[u8] = b"CREATE TABLE t (id INT);\n";
 
+// Session 2 wants the value that session 1's open DELETE holds, and again after the COMMIT.
+const HELD: &[u8] =
+    b"CREATE TABLE t (id INT, UNIQUE KEY (id));\n1: INSERT INTO t VALUES (1);\n1: BEGIN;\n1: DELETE FROM t WHERE id = 1;\n2: INSERT INTO t VALUES (1);\n1: COMMIT;\n2: INSERT INTO t VALUES (1);\n";
+
+const HELD_OUTPUT: &[u8] =
+    b"SESSION 1 4 0\n0 0 OK 1\n2 0 OK\n3 0 OK 1\n4 0 OK\nSESSION 2 2 0\n4 0 ERROR 8 LockedValue 1 2 1\n5 0 OK 1\nHISTORY 7\n1 WRITE PUT 1 (1)\n1 COMMIT\n1 BEGIN\n1 WRITE DROP 1\n1 COMMIT\n2 WRITE PUT 2 (1)\n2 COMMIT\nEND\n";
+
 const HISTORY: &[u8] = b"HISTORY 2\n1 WRITE PUT 1 (7, 'ab')\n1 COMMIT\nEND\n";
 
 /// Takes one byte a call.
@@ -72,11 +79,12 @@ const DRIVE: &[&str] = &["--mode", "drive"];
 #[test]
 fn runs_end_so(rt: HostRuntime) -> Result<(), Fail> {
     let alloc = rt.alloc();
-    let cases: [(&[&str], &[u8], &[u64], &[u64], u8, &[u8]); 13] = [
+    let cases: [(&[&str], &[u8], &[u64], &[u64], u8, &[u8]); 14] = [
         (&[], SCRIPT, &[], &[], 0, OUTPUT),
         (DRIVE, SCRIPT, &[], &[], 0, OUTPUT),
         (DRIVE, EXTREMES, &[], &[], 0, EXTREMES_OUTPUT),
         (DRIVE, TABLE, &[], &[], 0, b"HISTORY 0\nEND\n"),
+        (DRIVE, HELD, &[], &[], 0, HELD_OUTPUT),
         (&["--mode", "fly"], SCRIPT, &[], &[], 2, b"usage error\n"),
         (&["--mode"], SCRIPT, &[], &[], 2, b"usage error\n"),
         (
@@ -101,7 +109,7 @@ fn runs_end_so(rt: HostRuntime) -> Result<(), Fail> {
         (&["--mode", "fly"], SCRIPT, &[], &[1], 5, b""),
         (
             DRIVE,
-            b"CREATE TABLE t (id INT)\n1: COMMIT",
+            b"CREATE TABLE t (id INT)\n1: FLUSH",
             &[],
             &[],
             3,
