@@ -5,6 +5,7 @@ pub mod Numbers
 pub mod TokenLaws
 pub mod ListLaws
 pub mod ValueLaws
+pub mod RefusalLaws
 pub mod LineLaws
 pub mod OutputLaws
 pub mod SessionLaws

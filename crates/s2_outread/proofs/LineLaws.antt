@@ -12,27 +12,19 @@ use Rattle.s2_model.specs.declared.entries.What.TheVariants as what
 use Rattle.s2_model.specs.declared.replies.Cell.{Cell}
 use Rattle.s2_model.specs.declared.replies.Reply.{Reply}
 use Rattle.s2_model.specs.declared.replies.Reply.TheVariants as reply
-use Rattle.s2_model.specs.declared.replies.Refusal.{Refusal}
-use Rattle.s2_model.specs.declared.replies.Refusal.TheVariants as refusal
 use Rattle.s2_model.specs.OutputText.{field, cell_text, change_text, what_text, refusal_text, reply_text}
 use Rattle.s2_token.specs.Lexing.{◌>>=◌}
 use Rattle.s2_token.proofs.Tools.{bind_some, some_is}
 use Rattle.s2_outread.specs.declared.forms.OutputLine.{OutputLine}
 use Rattle.s2_outread.specs.declared.forms.OutputLine.TheVariants as line
 use Rattle.s2_outread.specs.Lines.{IsCell, IsChange, IsRefusal, IsReply, IsWhat, IsLine, line_text}
-use Rattle.s2_outread.specs.Reading.{after, begins, is_number_byte, number_of, number_at, natural_at, below_at, tuple_at, list_at, cell_at, change_at, changes_at, what_at, refusal_at, reply_at, session_at, history_at, entry_at, numbered_at, typed_at, line_at}
-use Rattle.s2_outread.proofs.Tools.{after_again, after_takes, regroup_3, regroup_4, regroup_5}
+use Rattle.s2_outread.specs.Reading.{after, begins, is_number_byte, number_of, number_at, natural_at, below_at, tuple_at, list_at, cell_at, change_at, changes_at, word_at, what_at, refusal_at, answer_at, reply_at, session_at, history_at, entry_at, numbered_at, typed_at, line_at}
+use Rattle.s2_outread.proofs.Tools.{after_again, after_takes, regroup_3, regroup_4, regroup_5, only_is, bind_only, map_or_only}
 use Rattle.s2_outread.proofs.Numbers.{no_number, number_heads}
-use Rattle.s2_outread.proofs.TokenLaws.{Closes, natural_wide, natural_at_again, natural_at_typed, below_at_again, below_at_typed, begins_number, after_none}
+use Rattle.s2_outread.proofs.TokenLaws.{spaced, ended, natural_wide, natural_at_again, natural_at_typed, below_at_again, below_at_typed, begins_number, after_none}
+use Rattle.s2_outread.proofs.RefusalLaws.{refusal_again, refusal_only}
 use Rattle.s2_outread.proofs.ListLaws.{map_or_some, list_again, items_typed, tuple_again, tuple_typed, tuple_text}
 use Rattle.s2_outread.proofs.ValueLaws.{cell_reads, cell_open, change_reads}
-
--- what stands after a number in a line
-spaced : (t : List ℕ) → Closes (codes " " ++ t)
-spaced t = record { number = refl; quote = refl }
-
-ended : (t : List ℕ) → Closes (codes "\n" ++ t)
-ended t = record { number = refl; quote = refl }
 
 -- ---- entries
 
@@ -53,17 +45,45 @@ changes_again (c ∷ cs) rest fit =
     ∙ ap (λ (o : Option (List Change × List ℕ)). o >>= λ x. Some x.0) (list_again change_reads c cs (codes "\n" ++ rest) fit (omega arith) (ended rest) comma)
 
 what_again : (w : What) (rest : List ℕ) → IsWhat w → what_at (what_text w ++ (codes "\n" ++ rest)) ≡ Some w
-unfolding what_at
+unfolding what_at word_at
 what_again (what.Write changes) rest fit =
     let inside = separated (codes ", ") change_text changes ++ (codes "\n" ++ rest) in
-    let none : after (codes "COMMIT\n") (codes "WRITE " ++ inside) ≡ None = after_none 67 (codes "OMMIT\n") (codes "WRITE " ++ inside) refl in
-    rw (none, after_again (codes "WRITE ") inside, changes_again changes rest fit) refl
-what_again what.Commit rest fit = rw (after_again (codes "COMMIT\n") rest) refl
+    rw (after_again (codes "WRITE ") inside, changes_again changes rest fit) refl
+what_again what.Commit rest fit = rw (after_none 87 (codes "RITE ") (codes "COMMIT\n" ++ rest) refl, after_again (codes "COMMIT\n") rest) refl
+what_again what.Begin rest fit =
+    let bytes = codes "BEGIN\n" ++ rest in
+    rw (after_none 87 (codes "RITE ") bytes refl, after_none 67 (codes "OMMIT\n") bytes refl, after_again (codes "BEGIN\n") rest) refl
+what_again what.Rollback rest fit =
+    let bytes = codes "ROLLBACK\n" ++ rest in
+    rw (after_none 87 (codes "RITE ") bytes refl, after_none 67 (codes "OMMIT\n") bytes refl, after_none 66 (codes "EGIN\n") bytes refl, after_again (codes "ROLLBACK\n") rest) refl
+what_again what.Pin rest fit =
+    let bytes = codes "PIN\n" ++ rest in
+    rw (
+      after_none 87 (codes "RITE ") bytes refl,
+      after_none 67 (codes "OMMIT\n") bytes refl,
+      after_none 66 (codes "EGIN\n") bytes refl,
+      after_none 82 (codes "OLLBACK\n") bytes refl,
+      after_again (codes "PIN\n") rest,
+    ) refl
+what_again what.Unpin rest fit =
+    let bytes = codes "UNPIN\n" ++ rest in
+    rw (
+      after_none 87 (codes "RITE ") bytes refl,
+      after_none 67 (codes "OMMIT\n") bytes refl,
+      after_none 66 (codes "EGIN\n") bytes refl,
+      after_none 82 (codes "OLLBACK\n") bytes refl,
+      after_none 80 (codes "IN\n") bytes refl,
+      after_again (codes "UNPIN\n") rest,
+    ) refl
 what_again _ rest fit = absurd fit
 
 not_digit : (w : What) (rest : List ℕ) → IsWhat w → prefix_len is_number_byte (what_text w ++ rest) ≡ 0
+not_digit what.Begin rest fit = refl
 not_digit (what.Write changes) rest fit = refl
 not_digit what.Commit rest fit = refl
+not_digit what.Rollback rest fit = refl
+not_digit what.Pin rest fit = refl
+not_digit what.Unpin rest fit = refl
 not_digit _ rest fit = absurd fit
 
 pub natural_none : (bytes : List ℕ) → prefix_len is_number_byte bytes ≡ 0 → natural_at bytes ≡ None
@@ -83,40 +103,33 @@ entry_again a w rest small fit =
 
 -- ---- replies
 
-refusal_again : (e : Refusal) (rest : List ℕ) → IsRefusal e → refusal_at (refusal_text e ++ (codes "\n" ++ rest)) ≡ Some e
-unfolding refusal_at
-refusal_again refusal.LogFull rest fit = rw (after_again (codes "4 LogFull\n") rest) refl
-refusal_again refusal.TooManyRows rest fit =
-    rw (after_none 52 (codes " LogFull\n") (codes "5 TooManyRows\n" ++ rest) refl, after_again (codes "5 TooManyRows\n") rest) refl
-refusal_again refusal.Memory rest fit =
-    let bytes = codes "13 Memory\n" ++ rest in
-    rw (after_none 52 (codes " LogFull\n") bytes refl, after_none 53 (codes " TooManyRows\n") bytes refl, after_again (codes "13 Memory\n") rest) refl
-refusal_again (refusal.OutOfRange row) rest fit =
-    let inside = decimal row ++ (codes "\n" ++ rest) in
-    let bytes = codes "7 OutOfRange " ++ inside in
-    rw (
-      after_none 52 (codes " LogFull\n") bytes refl,
-      after_none 53 (codes " TooManyRows\n") bytes refl,
-      after_none 49 (codes "3 Memory\n") bytes refl,
-      after_again (codes "7 OutOfRange ") inside,
-      natural_at_again row (codes "\n" ++ rest) fit (ended rest),
-    ) refl
-refusal_again _ rest fit = absurd fit
+done_is_no_count : (rest : List ℕ) → after (codes "OK ") (codes "OK\n" ++ rest) ≡ None
+unfolding after
+done_is_no_count rest = refl
 
-changed_again : (r f n : ℕ) (rest : List ℕ) → n < 2 ^ 32 → reply_at r f (codes "OK " ++ (decimal n ++ (codes "\n" ++ rest))) ≡ Some (line.Said (record { r = r; faults = f; reply = reply.Changed n }))
-unfolding reply_at
-changed_again r f n rest small =
+answer_again : (a : Reply) (rest : List ℕ) → IsReply a → answer_at (reply_text a ++ rest) ≡ Some a
+unfolding answer_at
+answer_again (reply.Changed n) rest fit =
     let inside = decimal n ++ (codes "\n" ++ rest) in
-    let none : after (codes "ROWS ") (codes "OK " ++ inside) ≡ None = after_none 82 (codes "OWS ") (codes "OK " ++ inside) refl in
-    rw (none, after_again (codes "OK ") inside, below_at_again 4294967296 n (codes "\n" ++ rest) small (omega (arith, small)) (ended rest)) refl
-
-refused_again : (r f : ℕ) (e : Refusal) (rest : List ℕ) → IsRefusal e → reply_at r f (codes "ERROR " ++ (refusal_text e ++ (codes "\n" ++ rest))) ≡ Some (line.Said (record { r = r; faults = f; reply = reply.Refused e }))
-unfolding reply_at
-refused_again r f e rest fit =
+    ap answer_at (append_assoc (codes "OK" ++ field n) (codes "\n") rest)
+    ∙ rw (after_again (codes "OK ") inside, below_at_again 4294967296 n (codes "\n" ++ rest) fit (omega (arith, fit)) (ended rest)) refl
+answer_again reply.Done rest fit = rw (done_is_no_count rest, after_again (codes "OK\n") rest) refl
+answer_again (reply.Refused e) rest fit =
     let inside = refusal_text e ++ (codes "\n" ++ rest) in
-    let rows : after (codes "ROWS ") (codes "ERROR " ++ inside) ≡ None = after_none 82 (codes "OWS ") (codes "ERROR " ++ inside) refl in
-    let ok : after (codes "OK ") (codes "ERROR " ++ inside) ≡ None = after_none 79 (codes "K ") (codes "ERROR " ++ inside) refl in
-    rw (rows, ok, after_again (codes "ERROR ") inside, refusal_again e rest fit) refl
+    let bytes = codes "ERROR " ++ inside in
+    ap answer_at (append_assoc (codes "ERROR " ++ refusal_text e) (codes "\n") rest)
+    ∙ rw (after_none 79 (codes "K ") bytes refl, after_none 79 (codes "K\n") bytes refl, after_again (codes "ERROR ") inside, refusal_again e rest fit) refl
+answer_again _ rest fit = absurd fit
+
+not_rows : (a : Reply) (rest : List ℕ) → IsReply a → begins 82 (reply_text a ++ rest) ≡ false
+not_rows (reply.Changed n) rest fit = refl
+not_rows reply.Done rest fit = refl
+not_rows (reply.Refused e) rest fit = refl
+not_rows _ rest fit = absurd fit
+
+reply_line : (r f : ℕ) (a : Reply) (rest : List ℕ) → IsReply a → reply_at r f (reply_text a ++ rest) ≡ Some (line.Said (record { r = r; faults = f; reply = a }))
+unfolding reply_at
+reply_line r f a rest fit = rw (after_none 82 (codes "OWS ") (reply_text a ++ rest) (not_rows a rest fit), answer_again a rest fit) refl
 
 rows_again : (r f n : ℕ) (rest : List ℕ) → n < 2 ^ 64 → reply_at r f (codes "ROWS " ++ (decimal n ++ (codes "\n" ++ rest))) ≡ Some (line.Rows r f n)
 unfolding reply_at
@@ -197,13 +210,6 @@ row_line cells rest fit =
 
 -- ---- lines
 
-reply_line : (r f : ℕ) (a : Reply) (rest : List ℕ) → IsReply a → reply_at r f (reply_text a ++ rest) ≡ Some (line.Said (record { r = r; faults = f; reply = a }))
-reply_line r f (reply.Changed n) rest fit =
-    ap (reply_at r f) (append_assoc (codes "OK" ++ field n) (codes "\n") rest) ∙ changed_again r f n rest fit
-reply_line r f (reply.Refused e) rest fit =
-    ap (reply_at r f) (append_assoc (codes "ERROR " ++ refusal_text e) (codes "\n") rest) ∙ refused_again r f e rest fit
-reply_line r f _ rest fit = absurd fit
-
 typed_again : (l : OutputLine) (rest : List ℕ) → IsLine l → typed_at (line_text l ++ rest) ≡ Some l
 typed_again (line.Session k n f) rest fit =
     ap typed_at (regroup_5 (codes "SESSION") (field k) (field n) (field f) (codes "\n") rest)
@@ -247,15 +253,11 @@ changes_typed bytes cs e =
     ]
 
 what_typed : (bytes : List ℕ) (w : What) → what_at bytes ≡ Some w → IsWhat w
-unfolding what_at
+unfolding what_at word_at
 what_typed bytes w e =
-    elim (map_or_some (λ rest. Some what.Commit) (after (codes "COMMIT\n") bytes) (after (codes "WRITE ") bytes >>= λ rest. changes_at rest >>= λ cs. Some (what.Write cs)) w e) [
-      | inl m ↦ subst IsWhat (some_is what.Commit w m.2) tt
-      | inr n ↦
-          let a = bind_some (after (codes "WRITE ") bytes) (λ rest. changes_at rest >>= λ cs. Some (what.Write cs)) w n in
-          let b = bind_some (changes_at a.0) (λ cs. Some (what.Write cs)) w a.2 in
-          subst IsWhat (some_is (what.Write b.0) w b.2) (changes_typed a.0 b.0 b.1)
-    ]
+    let word = map_or_only IsWhat _ (after (codes "COMMIT\n") bytes) _ (λ rest ok. tt) (map_or_only IsWhat _ (after (codes "BEGIN\n") bytes) _ (λ rest ok. tt) (map_or_only IsWhat _ (after (codes "ROLLBACK\n") bytes) _ (λ rest ok. tt)
+    (map_or_only IsWhat _ (after (codes "PIN\n") bytes) _ (λ rest ok. tt) (map_or_only IsWhat _ (after (codes "UNPIN\n") bytes) None (λ rest ok. tt) tt)))) in
+    only_is IsWhat _ w (map_or_only IsWhat _ (after (codes "WRITE ") bytes) _ (λ rest ok. bind_only IsWhat (changes_at rest) _ (λ cs is. changes_typed rest cs is)) word) e
 
 entry_typed : (a : ℕ) (bytes : List ℕ) (l : OutputLine) → entry_at a bytes ≡ Some l → IsLine l
 unfolding entry_at
@@ -265,52 +267,23 @@ entry_typed a bytes l e =
     let small : a < 2 ^ 8 = grind (arith, nat_tests) in
     subst IsLine (some_is (line.Entry (record { actor = a; what = b.0 })) l b.2) (small, what_typed bytes b.0 b.1)
 
-refusal_typed : (bytes : List ℕ) (x : Refusal) → refusal_at bytes ≡ Some x → IsRefusal x
-unfolding refusal_at
-refusal_typed bytes x e =
-    let last = after (codes "7 OutOfRange ") bytes >>= λ rest. natural_at rest >>= λ row. Some (refusal.OutOfRange row.0) in
-    let third = option_map_or (λ rest. Some refusal.Memory) (after (codes "13 Memory\n") bytes) last in
-    let second = option_map_or (λ rest. Some refusal.TooManyRows) (after (codes "5 TooManyRows\n") bytes) third in
-    elim (map_or_some (λ rest. Some refusal.LogFull) (after (codes "4 LogFull\n") bytes) second x e) [
-      | inl m ↦ subst IsRefusal (some_is refusal.LogFull x m.2) tt
-      | inr n ↦ elim (map_or_some (λ rest. Some refusal.TooManyRows) (after (codes "5 TooManyRows\n") bytes) third x n) [
-        | inl m ↦ subst IsRefusal (some_is refusal.TooManyRows x m.2) tt
-        | inr n ↦ elim (map_or_some (λ rest. Some refusal.Memory) (after (codes "13 Memory\n") bytes) last x n) [
-          | inl m ↦ subst IsRefusal (some_is refusal.Memory x m.2) tt
-          | inr n ↦
-              let a = bind_some (after (codes "7 OutOfRange ") bytes) (λ rest. natural_at rest >>= λ row. Some (refusal.OutOfRange row.0)) x n in
-              let b = bind_some (natural_at a.0) (λ row. Some (refusal.OutOfRange row.0)) x a.2 in
-              subst IsRefusal (some_is (refusal.OutOfRange b.0.0) x b.2) (natural_at_typed a.0 b.0 b.1)
-        ]
-      ]
-    ]
-
-abbrev plain_at : List ℕ → Option Reply
-plain_at bytes = option_map_or (λ rest. below_at 4294967296 rest >>= λ n. Some (reply.Changed n.0)) (after (codes "OK ") bytes)
-    (after (codes "ERROR ") bytes >>= λ rest. refusal_at rest >>= λ e. Some (reply.Refused e))
-
-plain_typed : (bytes : List ℕ) (a : Reply) → plain_at bytes ≡ Some a → IsReply a
-plain_typed bytes a e =
-    elim (map_or_some (λ rest. below_at 4294967296 rest >>= λ n. Some (reply.Changed n.0)) (after (codes "OK ") bytes) (after (codes "ERROR ") bytes >>= λ rest. refusal_at rest >>= λ x. Some (reply.Refused x)) a e) [
-      | inl m ↦
-          let b = bind_some (below_at 4294967296 m.0) (λ n. Some (reply.Changed n.0)) a m.2 in
-          subst IsReply (some_is (reply.Changed b.0.0) a b.2) (below_at_typed 4294967296 m.0 b.0 b.1)
-      | inr n ↦
-          let b = bind_some (after (codes "ERROR ") bytes) (λ rest. refusal_at rest >>= λ x. Some (reply.Refused x)) a n in
-          let c = bind_some (refusal_at b.0) (λ x. Some (reply.Refused x)) a b.2 in
-          subst IsReply (some_is (reply.Refused c.0) a c.2) (refusal_typed b.0 c.0 c.1)
-    ]
+answer_typed : (bytes : List ℕ) (a : Reply) → answer_at bytes ≡ Some a → IsReply a
+unfolding answer_at
+answer_typed bytes a e =
+    let refused = bind_only IsReply (after (codes "ERROR ") bytes) _ (λ rest ok. bind_only IsReply (refusal_at rest) _ (λ x is. only_is IsRefusal _ x (refusal_only rest) is)) in
+    let done = map_or_only IsReply _ (after (codes "OK\n") bytes) _ (λ rest ok. tt) refused in
+    only_is IsReply _ a (map_or_only IsReply _ (after (codes "OK ") bytes) _ (λ rest ok. bind_only IsReply (below_at 4294967296 rest) _ (λ n is. below_at_typed 4294967296 rest n is)) done) e
 
 reply_typed : (r f : ℕ) (bytes : List ℕ) (l : OutputLine) → r < 2 ^ 64 → f < 2 ^ 64 → reply_at r f bytes ≡ Some l → IsLine l
 unfolding reply_at
 reply_typed r f bytes l small few e =
-    elim (map_or_some (λ rest. natural_at rest >>= λ n. Some (line.Rows r f n.0)) (after (codes "ROWS ") bytes) (plain_at bytes >>= λ said. Some (line.Said (record { r = r; faults = f; reply = said }))) l e) [
+    elim (map_or_some (λ rest. natural_at rest >>= λ n. Some (line.Rows r f n.0)) (after (codes "ROWS ") bytes) (answer_at bytes >>= λ said. Some (line.Said (record { r = r; faults = f; reply = said }))) l e) [
       | inl m ↦
           let b = bind_some (natural_at m.0) (λ n. Some (line.Rows r f n.0)) l m.2 in
           subst IsLine (some_is (line.Rows r f b.0.0) l b.2) (small, few, natural_at_typed m.0 b.0 b.1)
       | inr n ↦
-          let b = bind_some (plain_at bytes) (λ said. Some (line.Said (record { r = r; faults = f; reply = said }))) l n in
-          subst IsLine (some_is (line.Said (record { r = r; faults = f; reply = b.0 })) l b.2) (small, few, plain_typed bytes b.0 b.1)
+          let b = bind_some (answer_at bytes) (λ said. Some (line.Said (record { r = r; faults = f; reply = said }))) l n in
+          subst IsLine (some_is (line.Said (record { r = r; faults = f; reply = b.0 })) l b.2) (small, few, answer_typed bytes b.0 b.1)
     ]
 
 session_typed : (bytes : List ℕ) (l : OutputLine) → session_at bytes ≡ Some l → IsLine l

@@ -188,6 +188,7 @@ one_line d is = one d.reply is refl
   where
     one : (a : Reply) → IsReply a → d.reply ≡ a → reply_lines d.r d.faults d.reply ≡ line.Said d ∷ []
     one (reply.Changed n) is e = rw e refl
+    one reply.Done is e = rw e refl
     one (reply.Refused x) is e = rw e refl
     one _ is e = absurd is
 

@@ -25,6 +25,12 @@ pub record Closes (rest : List ℕ) : Type 0 where
   pub number : prefix_len is_number_byte rest ≡ 0
   pub quote : eqb (get_or rest 0 0) 39 ≡ false
 
+pub spaced : (t : List ℕ) → Closes (codes " " ++ t)
+spaced t = record { number = refl; quote = refl }
+
+pub ended : (t : List ℕ) → Closes (codes "\n" ++ t)
+ended t = record { number = refl; quote = refl }
+
 all_number : (xs : List ℕ) → list_all is_number_byte xs ≡ true → prefix_len is_number_byte xs ≡ length xs
 all_number [] h = refl
 all_number (x ∷ xs) h =

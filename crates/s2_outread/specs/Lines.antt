@@ -72,24 +72,35 @@ abbrev pub IsChange : Change → Type 0
 IsChange (change.Put n row) = (n < 2 ^ 64) × AllByRecursion IsValue row
 IsChange (change.Drop n) = n < 2 ^ 64
 
--- the refusals of INSERT, UPDATE, DELETE and SELECT of a session that is alone
+-- the refusals of INSERT, UPDATE, DELETE, SELECT and of the statements of transactions
 abbrev pub IsRefusal : Refusal → Type 0
+IsRefusal refusal.NoTransaction = Unit {0}
+IsRefusal refusal.AlreadyOpen = Unit {0}
+IsRefusal refusal.ReadOnly = Unit {0}
 IsRefusal refusal.LogFull = Unit {0}
 IsRefusal refusal.TooManyRows = Unit {0}
+IsRefusal (refusal.Locked row holder) = (row < 2 ^ 64) × (holder < 2 ^ 8)
 IsRefusal (refusal.OutOfRange row) = row < 2 ^ 64
+IsRefusal (refusal.LockedValue key row holder) = (key < 2 ^ 8) × (row < 2 ^ 64) × (holder < 2 ^ 8)
+IsRefusal (refusal.Duplicate key row) = (key < 2 ^ 8) × (row < 2 ^ 64)
 IsRefusal refusal.Memory = Unit {0}
 IsRefusal _ = ⊥
 
 -- their replies that have one line
 abbrev pub IsReply : Reply → Type 0
 IsReply (reply.Changed n) = n < 2 ^ 32
+IsReply reply.Done = Unit {0}
 IsReply (reply.Refused r) = IsRefusal r
 IsReply _ = ⊥
 
 -- their entries
 abbrev pub IsWhat : What → Type 0
+IsWhat what.Begin = Unit {0}
 IsWhat (what.Write changes) = AllByRecursion IsChange changes
 IsWhat what.Commit = Unit {0}
+IsWhat what.Rollback = Unit {0}
+IsWhat what.Pin = Unit {0}
+IsWhat what.Unpin = Unit {0}
 IsWhat _ = ⊥
 
 abbrev pub IsLine : OutputLine → Type 0

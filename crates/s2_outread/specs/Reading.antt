@@ -15,6 +15,7 @@ use Rattle.s2_model.specs.declared.entries.What.{What}
 use Rattle.s2_model.specs.declared.entries.What.TheVariants as what
 use Rattle.s2_model.specs.declared.replies.Cell.{Cell}
 use Rattle.s2_model.specs.declared.replies.Cell.TheVariants as cell
+use Rattle.s2_model.specs.declared.replies.Reply.{Reply}
 use Rattle.s2_model.specs.declared.replies.Reply.TheVariants as reply
 use Rattle.s2_model.specs.declared.replies.Refusal.{Refusal}
 use Rattle.s2_model.specs.declared.replies.Refusal.TheVariants as refusal
@@ -149,25 +150,89 @@ change_at bytes = option_map_or put_at (after (codes "PUT ") bytes)
 unfoldable pub changes_at : List ℕ → Option (List Change)
 changes_at bytes = option_map_or (λ rest. Some []) (after (codes "\n") bytes) (list_at change_at bytes >>= λ x. Some x.0)
 
+-- what a word alone says
+unfoldable pub word_at : List ℕ → Option What
+word_at bytes =
+    option_map_or (λ rest. Some what.Commit) (after (codes "COMMIT\n") bytes)
+    (option_map_or (λ rest. Some what.Begin) (after (codes "BEGIN\n") bytes)
+    (option_map_or (λ rest. Some what.Rollback) (after (codes "ROLLBACK\n") bytes)
+    (option_map_or (λ rest. Some what.Pin) (after (codes "PIN\n") bytes)
+    (option_map_or (λ rest. Some what.Unpin) (after (codes "UNPIN\n") bytes) None))))
+
 unfoldable pub what_at : List ℕ → Option What
-what_at bytes = option_map_or (λ rest. Some what.Commit) (after (codes "COMMIT\n") bytes)
-    (after (codes "WRITE ") bytes >>= λ rest. changes_at rest >>= λ changes. Some (what.Write changes))
+what_at bytes = option_map_or (λ rest. changes_at rest >>= λ changes. Some (what.Write changes)) (after (codes "WRITE ") bytes) (word_at bytes)
 
 -- replies
 
+-- a number below 256 that another follows
+unfoldable pub short_at : Reader ℕ
+short_at bytes = do
+  x ← below_at 256 bytes
+  rest ← after (codes " ") x.1
+  Some (x.0, rest)
+
+-- a row and its holder
+unfoldable pub held_at : List ℕ → Option (ℕ × ℕ)
+held_at bytes = do
+  row ← natural_at bytes
+  rest ← after (codes " ") row.1
+  holder ← below_at 256 rest
+  Some (row.0, holder.0)
+
+unfoldable pub locked_at : List ℕ → Option Refusal
+locked_at bytes = do
+  rest ← after (codes " Locked ") bytes
+  held ← held_at rest
+  Some (refusal.Locked held.0 held.1)
+
+unfoldable pub out_of_range_at : List ℕ → Option Refusal
+out_of_range_at bytes = do
+  rest ← after (codes " OutOfRange ") bytes
+  row ← natural_at rest
+  Some (refusal.OutOfRange row.0)
+
+unfoldable pub locked_value_at : List ℕ → Option Refusal
+locked_value_at bytes = do
+  rest ← after (codes " LockedValue ") bytes
+  key ← short_at rest
+  held ← held_at key.1
+  Some (refusal.LockedValue key.0 held.0 held.1)
+
+unfoldable pub duplicate_at : List ℕ → Option Refusal
+duplicate_at bytes = do
+  rest ← after (codes " Duplicate ") bytes
+  key ← short_at rest
+  row ← natural_at key.1
+  Some (refusal.Duplicate key.0 row.0)
+
+-- the refusal of a number, by what stands after the number
+unfoldable pub numbered_refusal : ℕ → List ℕ → Option Refusal
+numbered_refusal code rest =
+    if code == 1 then Some refusal.NoTransaction else
+    if code == 2 then Some refusal.AlreadyOpen else
+    if code == 3 then Some refusal.ReadOnly else
+    if code == 4 then Some refusal.LogFull else
+    if code == 5 then Some refusal.TooManyRows else
+    if code == 6 then locked_at rest else
+    if code == 7 then out_of_range_at rest else
+    if code == 8 then locked_value_at rest else
+    if code == 9 then duplicate_at rest else
+    if code == 13 then Some refusal.Memory else None
+
 unfoldable pub refusal_at : List ℕ → Option Refusal
-refusal_at bytes =
-    option_map_or (λ rest. Some refusal.LogFull) (after (codes "4 LogFull\n") bytes)
-    (option_map_or (λ rest. Some refusal.TooManyRows) (after (codes "5 TooManyRows\n") bytes)
-    (option_map_or (λ rest. Some refusal.Memory) (after (codes "13 Memory\n") bytes)
-    (after (codes "7 OutOfRange ") bytes >>= λ rest. natural_at rest >>= λ row. Some (refusal.OutOfRange row.0))))
+refusal_at bytes = natural_at bytes >>= λ code. numbered_refusal code.0 code.1
+
+-- a reply that has one line
+unfoldable pub answer_at : List ℕ → Option Reply
+answer_at bytes =
+    option_map_or (λ rest. below_at 4294967296 rest >>= λ n. Some (reply.Changed n.0)) (after (codes "OK ") bytes)
+    (option_map_or (λ rest. Some reply.Done) (after (codes "OK\n") bytes)
+    (after (codes "ERROR ") bytes >>= λ rest. refusal_at rest >>= λ e. Some (reply.Refused e)))
 
 unfoldable pub reply_at : ℕ → ℕ → List ℕ → Option OutputLine
 reply_at r faults bytes =
     option_map_or (λ rest. natural_at rest >>= λ n. Some (line.Rows r faults n.0)) (after (codes "ROWS ") bytes)
-    (option_map_or (λ rest. below_at 4294967296 rest >>= λ n. Some (reply.Changed n.0)) (after (codes "OK ") bytes)
-    (after (codes "ERROR ") bytes >>= λ rest. refusal_at rest >>= λ e. Some (reply.Refused e))
-    >>= λ said. Some (line.Said (record { r = r; faults = faults; reply = said })))
+    (answer_at bytes >>= λ said. Some (line.Said (record { r = r; faults = faults; reply = said })))
 
 -- lines
 

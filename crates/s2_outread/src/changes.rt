@@ -1,5 +1,5 @@
 //! Changes, and what an entry does.
-ghost use Rattle.s2_outread.specs.Reading.{Gives, put_at, change_at, changes_at, what_at};
+ghost use Rattle.s2_outread.specs.Reading.{Gives, put_at, change_at, changes_at, word_at, what_at};
 
 use crate::lists::{Item, list, tuple};
 use crate::stops::Stop;
@@ -42,13 +42,36 @@ fn changes(alloc: Global, bytes: &[u8]) -> Result<ChangeList, Stop>
     }
 }
 
+/// What an entry does that is a word alone.
+#[tactic(auto, unfolding(crate::specs::Reading::word_at))]
+fn word(bytes: &[u8]) -> Result<What, Stop>
+    ensures { Gives (λ x. x) result (word_at bytes.now) }
+{
+    if let Some(_) = after(b"COMMIT\n", bytes) {
+        return Ok(What::Commit);
+    }
+    if let Some(_) = after(b"BEGIN\n", bytes) {
+        return Ok(What::Begin);
+    }
+    if let Some(_) = after(b"ROLLBACK\n", bytes) {
+        return Ok(What::Rollback);
+    }
+    if let Some(_) = after(b"PIN\n", bytes) {
+        return Ok(What::Pin);
+    }
+    if let Some(_) = after(b"UNPIN\n", bytes) {
+        return Ok(What::Unpin);
+    }
+    Err(Stop::Refused)
+}
+
 /// What an entry does. These are the kinds of entry that are read.
 #[tactic(auto, unfolding(crate::specs::Reading::what_at))]
 pub fn what(alloc: Global, bytes: &[u8]) -> Result<What, Stop>
     ensures { Gives (λ x. x) result (what_at bytes.now) }
 {
-    match after(b"COMMIT\n", bytes) {
-        Some(_) => Ok(What::Commit),
-        None => Ok(What::Write(changes(alloc, past(b"WRITE ", bytes)?)?)),
+    match after(b"WRITE ", bytes) {
+        Some(rest) => Ok(What::Write(changes(alloc, rest)?)),
+        None => word(bytes),
     }
 }

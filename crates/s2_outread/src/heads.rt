@@ -1,30 +1,27 @@
 //! Replies, and the lines that begin with a word.
-ghost use Rattle.s2_outread.specs.Reading.{Gives, refusal_at, reply_at, session_at, history_at};
+ghost use Rattle.s2_outread.specs.Reading.{Gives, answer_at, reply_at, session_at, history_at};
 
 use crate::forms::OutputLine;
+use crate::refusals::refusal;
 use crate::stops::Stop;
 use crate::tokens::{after, below, natural, past};
-use s2_model::{Refusal, Reply, Said};
+use s2_model::{Reply, Said};
 
-/// A refusal. These are the kinds of refusal that are read.
-#[tactic(auto, unfolding(crate::specs::Reading::refusal_at))]
-fn refusal(bytes: &[u8]) -> Result<Refusal, Stop>
-    ensures { Gives (λ x. x) result (refusal_at bytes.now) }
+/// A reply that has one line. These are the kinds of reply that are read.
+#[tactic(auto, unfolding(crate::specs::Reading::answer_at))]
+fn answer(bytes: &[u8]) -> Result<Reply, Stop>
+    ensures { Gives (λ x. x) result (answer_at bytes.now) }
 {
-    if let Some(_) = after(b"4 LogFull\n", bytes) {
-        return Ok(Refusal::LogFull);
+    if let Some(rest) = after(b"OK ", bytes) {
+        return Ok(Reply::Changed(below(4294967296, rest)?.0 as u32));
     }
-    if let Some(_) = after(b"5 TooManyRows\n", bytes) {
-        return Ok(Refusal::TooManyRows);
+    if let Some(_) = after(b"OK\n", bytes) {
+        return Ok(Reply::Done);
     }
-    if let Some(_) = after(b"13 Memory\n", bytes) {
-        return Ok(Refusal::Memory);
-    }
-    let (row, _) = natural(past(b"7 OutOfRange ", bytes)?)?;
-    Ok(Refusal::OutOfRange { row })
+    Ok(Reply::Refused(refusal(past(b"ERROR ", bytes)?)?))
 }
 
-/// A reply after its timestamp and its fault count. These are the kinds of reply that are read.
+/// A reply after its timestamp and its fault count.
 #[tactic(auto, unfolding(crate::specs::Reading::reply_at))]
 pub fn reply(r: u64, faults: u64, bytes: &[u8]) -> Result<OutputLine, Stop>
     ensures { Gives (λ x. x) result (reply_at r faults bytes.now) }
@@ -33,10 +30,7 @@ pub fn reply(r: u64, faults: u64, bytes: &[u8]) -> Result<OutputLine, Stop>
         let (count, _) = natural(rest)?;
         return Ok(OutputLine::Rows { r, faults, count });
     }
-    let reply = match after(b"OK ", bytes) {
-        Some(rest) => Reply::Changed(below(4294967296, rest)?.0 as u32),
-        None => Reply::Refused(refusal(past(b"ERROR ", bytes)?)?),
-    };
+    let reply = answer(bytes)?;
     Ok(OutputLine::Said(Said { r, faults, reply }))
 }
 

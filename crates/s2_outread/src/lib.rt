@@ -12,6 +12,7 @@ mod lists;
 mod outputs;
 mod parts;
 mod printing;
+mod refusals;
 mod sessions;
 mod stops;
 #[cfg(test)]

@@ -60,8 +60,9 @@ fn all(alloc: Global, sessions: &[(u8, u64)], bytes: &[u8]) -> Result<Vec<Output
 }
 
 /// The outcome whose text these bytes are, where it is one of the script: a transcript of each session with a line,
-/// with as many replies as the session has lines. The replies are those of `INSERT`, `UPDATE`, `DELETE` and `SELECT`,
-/// the entries `WRITE` and `COMMIT`; whether they fit the script and the history isn't looked at.
+/// with as many replies as the session has lines. The replies are those of `INSERT`, `UPDATE`, `DELETE`, `SELECT`, `BEGIN`,
+/// `COMMIT` and `ROLLBACK`, the entries `BEGIN`, `WRITE`, `COMMIT`, `ROLLBACK`, `PIN` and `UNPIN`; whether they fit the
+/// script and the history isn't looked at.
 ///
 /// Else the first line, counted from 1, with which no such text goes on; it is the line after the last one where the text
 /// ends too early. Bytes after the last line feed count as a line, and such a line fits nowhere.

@@ -79,7 +79,9 @@ fn changed(alloc: Global, place: usize, line: &[u8]) -> Result<Vec<u8>, Fail> {
 }
 
 /// A line, what stands in its place, and the line at which the reading then stops; 0 where it doesn't.
-const CHANGES: [(usize, &[u8], u64); 34] = [
+type Case = (usize, &'static [u8], u64);
+
+const CHANGES: &[Case] = &[
     (1, b"SESSION 01 2 0", 1),
     (1, b"SESSION 2 2 0", 1),
     (1, b"SESSION 1 3 0", 1),
@@ -87,8 +89,8 @@ const CHANGES: [(usize, &[u8], u64); 34] = [
     (1, b"SESSION 1 2 18446744073709551616", 1),
     (2, b"0 0 OK 01", 2),
     (2, b"0 0 OK 4294967296", 2),
-    (2, b"0 0 OK", 2),
-    (2, b"0 0 ERROR 1 NoTransaction", 2),
+    (2, b"0 0 NOTHING", 2),
+    (2, b"0 0 ERROR 10 ReadFault 1", 2),
     (2, b"0 0 ERROR 7 OutOfRange 3", 0),
     (2, b"0 0 ERROR 13 Memory ", 2),
     (3, b"2 0 ROWS 0", 4),
@@ -109,20 +111,64 @@ const CHANGES: [(usize, &[u8], u64); 34] = [
     (6, b"0 WRITE PUT 1 (7), DROP 2", 0),
     (6, b"17 COMMIT", 0),
     (6, b"256 COMMIT", 6),
-    (6, b"1 BEGIN", 6),
+    (6, b"1 UPLOAD 1", 6),
     (6, b"1 WRITE PUT 1 (9223372036854775808)", 6),
     (6, b"1 WRITE", 6),
     (8, b"END ", 8),
     (8, b"END\nEND", 9),
 ];
 
+/// The forms of transactions and of unique keys.
+const FORMS: &[Case] = &[
+    (2, b"0 0 OK", 0),
+    (2, b"0 0 OK ", 2),
+    (2, b"0 0 OK -1", 2),
+    (2, b"0 0 ERROR 1 NoTransaction", 0),
+    (2, b"0 0 ERROR 01 NoTransaction", 2),
+    (2, b"0 0 ERROR 1", 2),
+    (2, b"0 0 ERROR 2 AlreadyOpen", 0),
+    (2, b"0 0 ERROR 3 ReadOnly", 0),
+    (2, b"0 0 ERROR 2 ReadOnly", 2),
+    (2, b"0 0 ERROR 3 ReadOnly 1", 2),
+    (2, b"0 0 ERROR 6 Locked 18446744073709551615 255", 0),
+    (2, b"0 0 ERROR 6 Locked 18446744073709551616 1", 2),
+    (2, b"0 0 ERROR 6 Locked 1 256", 2),
+    (2, b"0 0 ERROR 6 Locked 1", 2),
+    (2, b"0 0 ERROR 6 Locked 1 2 3", 2),
+    (2, b"0 0 ERROR 8 Locked 1 2", 2),
+    (2, b"0 0 ERROR 7 OutOfRange", 2),
+    (2, b"0 0 ERROR 8 LockedValue 255 18446744073709551615 0", 0),
+    (2, b"0 0 ERROR 8 LockedValue 256 1 1", 2),
+    (2, b"0 0 ERROR 8 LockedValue 1 18446744073709551616 1", 2),
+    (2, b"0 0 ERROR 8 LockedValue 1 2 256", 2),
+    (2, b"0 0 ERROR 8 LockedValue 1 2", 2),
+    (2, b"0 0 ERROR 6 LockedValue 1 2 1", 2),
+    (2, b"0 0 ERROR 9 Duplicate 255 18446744073709551615", 0),
+    (2, b"0 0 ERROR 9 Duplicate 256 2", 2),
+    (2, b"0 0 ERROR 9 Duplicate 1 18446744073709551616", 2),
+    (2, b"0 0 ERROR 9 Duplicate 1", 2),
+    (2, b"0 0 ERROR 13 Memory", 0),
+    (2, b"0 0 ERROR 14 NotYet", 2),
+    (6, b"1 BEGIN", 0),
+    (6, b"1 ROLLBACK", 0),
+    (6, b"1 PIN", 0),
+    (6, b"255 UNPIN", 0),
+    (6, b"256 PIN", 6),
+    (6, b"1 PIN 3", 6),
+    (6, b"1 UNPIN ", 6),
+    (6, b"1 ROLL", 6),
+    (6, b"1 begin", 6),
+];
+
 #[test]
 fn runs_with_one_change(rt: HostRuntime) -> Result<(), Fail> {
     let script = script(rt.alloc(), &[1, 1])?;
-    for (place, line, stops) in CHANGES {
-        let bytes = changed(rt.alloc(), place, line)?;
-        let found = told(read_output(rt.alloc(), &script, &bytes));
-        assert_eq!(rt; found, stops, "at {line:?}");
+    for cases in [CHANGES, FORMS] {
+        for (place, line, stops) in cases {
+            let bytes = changed(rt.alloc(), *place, line)?;
+            let found = told(read_output(rt.alloc(), &script, &bytes));
+            assert_eq!(rt; found, *stops, "at {line:?}");
+        }
     }
     Ok(())
 }
