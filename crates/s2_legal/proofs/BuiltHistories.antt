@@ -1,4 +1,4 @@
--- Histories of the built kinds alone: nobody has a pin or a transaction, there is no segment, and each row has a living version.
+-- Histories of the built kinds alone: there is no segment, and each row has a living version.
 use Rattle.std.proofs.Common.{◌≡◌, ℕ, Bool, true, false, cond, List, [], ◌∷◌, ◌++◌, Option, Some, None, length, map, refl, sym, ap, ◌∙◌, subst, arith}
 use Rattle.std.specs.Prelude.{◌&&◌, ◌||◌, ◌==◌, is_some, reverse, nat_lt}
 use Rattle.std.specs.List.{list_any}
@@ -10,10 +10,10 @@ use Rattle.s2_model.specs.declared.entries.Change.{Change}
 use Rattle.s2_model.specs.declared.entries.Change.TheVariants.{Put, Drop}
 use Rattle.s2_model.specs.declared.entries.Entry.{Entry}
 use Rattle.s2_model.specs.declared.entries.What.{What}
-use Rattle.s2_model.specs.declared.entries.What.TheVariants.{Write, Commit}
+use Rattle.s2_model.specs.declared.entries.What.TheVariants.{Begin, Write, Commit, Rollback, Pin, Unpin}
 use Rattle.s2_model.specs.declared.scripts.Options.{Options}
 use Rattle.s2_model.specs.Table.{Table, RowOf, row_at, apply, number_of}
-use Rattle.s2_model.specs.History.{History, upto, running_after, is_running, pin_after, pin_of, pending, state, view, seen_at}
+use Rattle.s2_model.specs.History.{History, upto, pin_of, pending, state, view, seen_at}
 use Rattle.s2_model.specs.Placement.{Placement, Segment, placement, place_after, lives, is_living, is_in_use, is_free}
 use Rattle.s2_model.specs.Fits.{AllFit, puts, is_in_store}
 use Rattle.s2_model.specs.Verdict.{moves, move_of, resting_places}
@@ -22,7 +22,7 @@ use Rattle.s2_model.proofs.Times.{count_segments}
 use Rattle.s2_model.proofs.Invariant.{size, now_from_numbers}
 use Rattle.s2_model.proofs.Whole.{sound}
 use Rattle.s2_legal.specs.Built.{is_built_what, are_built}
-use Rattle.s2_legal.specs.World.{is_put, is_left}
+use Rattle.s2_legal.specs.Lasts.{is_put, is_left}
 use Rattle.s2_legal.proofs.Worlds.{left_row}
 
 pub parts : (a b : Bool) → (a && b) ≡ true → (a ≡ true) × (b ≡ true)
@@ -33,40 +33,14 @@ pub joined : (a b : Bool) → a ≡ true → b ≡ true → (a && b) ≡ true
 joined true b p q = q
 joined false b p q = absurd (false≢true p)
 
-cond_one : {X : Type 0} (b : Bool) (x y z : X) → x ≡ z → y ≡ z → cond b x y ≡ z
-cond_one true x y z p q = p
-cond_one false x y z p q = q
-
--- nobody has a pin
-pin_step : (w : What) (t : ℕ) (was : Option ℕ) → is_built_what w ≡ true → pin_after w t was ≡ was
-pin_step (Write cs) t was b = refl
-pin_step Commit t was b = refl
-pin_step _ t was b = absurd (false≢true b)
-
-pub pin_none : (H : History) (k : ℕ) → are_built H ≡ true → pin_of H k ≡ None
-pin_none [] k b = refl
-pin_none (e ∷ H) k b =
-    let both = parts (is_built_what e.what) (are_built H) b in
-    cond_one (k == e.actor) (pin_after e.what (length (e ∷ H)) (pin_of H k)) (pin_of H k) None
-    (pin_step e.what (length (e ∷ H)) (pin_of H k) both.0 ∙ pin_none H k both.1) (pin_none H k both.1)
-
--- nobody is in a transaction
-run_step : (w : What) (was : Bool) → is_built_what w ≡ true → was ≡ false → running_after w was ≡ false
-run_step (Write cs) was b e = e
-run_step Commit was b e = refl
-run_step _ was b e = absurd (false≢true b)
-
-pub idle : (H : History) (k : ℕ) → are_built H ≡ true → is_running H k ≡ false
-idle [] k b = refl
-idle (e ∷ H) k b =
-    let both = parts (is_built_what e.what) (are_built H) b in
-    cond_one (k == e.actor) (running_after e.what (is_running H k)) (is_running H k) false
-    (run_step e.what (is_running H k) both.0 (idle H k both.1)) (idle H k both.1)
-
 -- there is no segment
 seg_step : (w : What) (t : ℕ) (rows : Table) (cs : List Change) (P : Placement) → is_built_what w ≡ true → (place_after w t rows cs P).segments ≡ P.segments
+seg_step Begin t rows ds P b = refl
 seg_step (Write cs) t rows ds P b = refl
 seg_step Commit t rows ds P b = refl
+seg_step Rollback t rows ds P b = refl
+seg_step Pin t rows ds P b = refl
+seg_step Unpin t rows ds P b = refl
 seg_step _ t rows ds P b = absurd (false≢true b)
 
 pub no_segments : (H : History) → are_built H ≡ true → (placement H).segments ≡ []
@@ -129,14 +103,15 @@ or_weaker : (a a' b : Bool) → (a ≡ true → a' ≡ true) → (a || b) ≡ tr
 or_weaker true a' b f e = or_left a' b (f refl)
 or_weaker false a' b f e = or_right a' b e
 
-pub view_is : (H : History) (k : ℕ) → are_built H ≡ true → view H k ≡ apply (state H) (pending H k)
-view_is H k b = ap (λ (p : Option ℕ). seen_at p H k) (pin_none H k b)
+-- what an actor without a pin sees
+pub view_unpinned : (H : History) (k : ℕ) → pin_of H k ≡ None → view H k ≡ apply (state H) (pending H k)
+view_unpinned H k none = ap (λ (p : Option ℕ). seen_at p H k) none
 
--- what an actor sees is in the row store
-pub stored : (schema : Schema) (options : Options) (H : History) (k n : ℕ) → AllFit schema options H → are_built H ≡ true
+-- and that is in the row store
+pub stored : (schema : Schema) (options : Options) (H : History) (k n : ℕ) → AllFit schema options H → are_built H ≡ true → pin_of H k ≡ None
     → is_some (row_at (view H k) n) ≡ true → is_in_store H k n ≡ true
-stored schema options H k n fit b sees =
-    let seen : is_some (row_at (apply (state H) (pending H k)) n) ≡ true = subst (λ (t : Table). is_some (row_at t n) ≡ true) (view_is H k b) sees in
+stored schema options H k n fit b none sees =
+    let seen : is_some (row_at (apply (state H) (pending H k)) n) ≡ true = subst (λ (t : Table). is_some (row_at t n) ≡ true) (view_unpinned H k none) sees in
     let left : is_left (pending H k) n (is_some (row_at (state H) n)) ≡ true = sym (left_row (state H) (pending H k) n) ∙ seen in
     or_weaker (is_some (row_at (state H) n)) (lives (placement H).versions n) (list_any (λ c. puts c n) (pending H k))
     (living schema options H n fit b) (left_or (pending H k) n (is_some (row_at (state H) n)) left)

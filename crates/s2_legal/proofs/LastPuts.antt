@@ -8,7 +8,7 @@ use Rattle.std.proofs.lemmas.Bool.Decides.{nat_tests}
 use Rattle.std.proofs.lemmas.List.Folds.{list_any-append}
 use Rattle.s2_model.specs.declared.entries.Change.{Change}
 use Rattle.s2_model.specs.Table.{touches, number_of}
-use Rattle.s2_legal.specs.World.{KnowsLast, is_put, is_left}
+use Rattle.s2_legal.specs.Lasts.{KnowsLast, is_put, is_left}
 
 pub knows_none : (m : BTreeMap ℕ Bool) → m.entries ≡ [] → KnowsLast (get nat_cmp m) []
 knows_none m none = record {

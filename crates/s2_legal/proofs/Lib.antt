@@ -1,12 +1,16 @@
 pub mod Answering
 pub mod BuiltHistories
 pub mod Fitting
+pub mod Known
 pub mod LastPuts
 pub mod MapRows
+pub mod NewNumbers
 pub mod Outcomes
+pub mod Pins
 pub mod Rising
 pub mod Rulings
 pub mod Standing
+pub mod Unmoved
 pub mod Walks
 pub mod Wholes
 pub mod Worlds

@@ -53,12 +53,15 @@ drop_entry n (p ∷ rows) sorted =
     ∙ go n p rows (p.0 == n) (λ e. above n p rows (sym (eqb-true p.0 n e)) (sorted_head nat_cmp p.0 (keys_of rows) sorted))
     (drop_entry n rows (sorted_tail nat_cmp p.0 (keys_of rows) sorted))
 
-found_step : (p : ℕ × RowOf) (b : Bool) (l r : Option RowOf) → is_some l ≡ is_some r → is_some (cond b (Some p.1) l) ≡ is_some (cond b (Some p.1) r)
-found_step p true l r ih = refl
-found_step p false l r ih = ih
+at_step : (p : ℕ × RowOf) (b : Bool) (l r : Option RowOf) → l ≡ r → cond b (Some p.1) l ≡ cond b (Some p.1) r
+at_step p true l r ih = refl
+at_step p false l r ih = ih
+
+pub found_at : (n : ℕ) (rows : Table) → lookup (is_at (nat_cmp n)) rows ≡ row_at rows n
+found_at n [] = refl
+found_at n (p ∷ rows) =
+    ap (λ b. cond b (Some p.1) (lookup (is_at (nat_cmp n)) rows)) (same_test n p.0)
+    ∙ at_step p (p.0 == n) (lookup (is_at (nat_cmp n)) rows) (row_at rows n) (found_at n rows)
 
 pub found_row : (n : ℕ) (rows : Table) → is_some (lookup (is_at (nat_cmp n)) rows) ≡ is_some (row_at rows n)
-found_row n [] = refl
-found_row n (p ∷ rows) =
-    ap (λ b. is_some (cond b (Some p.1) (lookup (is_at (nat_cmp n)) rows))) (same_test n p.0)
-    ∙ found_step p (p.0 == n) (lookup (is_at (nat_cmp n)) rows) (row_at rows n) (found_row n rows)
+found_row n rows = ap is_some (found_at n rows)

@@ -1,49 +1,62 @@
 -- Entries after the first r, and entries of an actor between two places.
-use Rattle.std.proofs.Common.{◌≡◌, ℕ, ◌+◌, ◌-◌, ◌<◌, ◌≤◌, Bool, true, false, cond, List, [], ◌∷◌, ◌++◌, Some, length, take, drop, get_or, reverse, refl, sym, ap, ◌∙◌, subst, arith, length-append, length-take-le}
+use Rattle.std.proofs.Common.{◌≡◌, ℕ, ◌+◌, ◌-◌, ◌<◌, ◌≤◌, Bool, true, false, cond, List, [], ◌∷◌, ◌++◌, Some, length, take, drop, get_or, reverse, refl, sym, ap, ◌∙◌, subst, arith, add-zero, length-append, length-take-le}
 use Rattle.std.specs.Prelude.{◌==◌, nat_lt}
 use Rattle.std.proofs.lemmas.Bool.{eq-eqb}
-use Rattle.std.proofs.lemmas.List.{reverse-append, take-append-drop, take-take, take_all}
+use Rattle.std.proofs.lemmas.List.{take-append-drop, take_more, drop_more, take_all}
 use Rattle.std.proofs.lemmas.List.Elements.{filter-append}
-use Rattle.s2_model.specs.declared.entries.Change.{Change}
 use Rattle.s2_model.specs.declared.entries.Entry.{Entry}
-use Rattle.s2_model.specs.declared.entries.What.TheVariants.{Write, Commit}
+use Rattle.s2_model.specs.declared.entries.What.{What}
 use Rattle.s2_model.specs.History.{History, ◌▷◌, history, upto, own, extended}
 use Rattle.s2_slow.proofs.SlowHistories.{history_more, upto_history, length_history}
-use Rattle.s2_model.proofs.Timestamps.{length-extended}
-use Rattle.s2_legal.specs.World.{committed, IsStand}
+use Rattle.s2_model.proofs.Timestamps.{length-extended, upto-upto, upto-extended, upto_all}
+use Rattle.s2_legal.specs.World.{IsStand}
+use Rattle.s2_legal.proofs.Pins.{extended-append, front_later}
 
--- two entries more
-two_more : (h : List Entry) (r : ℕ) (e1 e2 : Entry) → r + 1 < length h → e1 ≡ get_or h r e1 → e2 ≡ get_or h (r + 1) e2
-    → upto (r + 2) (history h) ≡ upto r (history h) ▷ e1 ▷ e2
-two_more h r e1 e2 lt at1 at2 =
-    let step : (r + 1) + 1 ≡ r + 2 = omega arith in
-    upto_history (r + 2) h (omega arith) ∙ ap (λ (n : ℕ). history (take n h)) (sym step) ∙ history_more h (r + 1) e2 lt at2
-    ∙ ap (λ (X : History). X ▷ e2) (history_more h r e1 (omega arith) at1)
-    ∙ ap (λ (X : History). X ▷ e1 ▷ e2) (sym (upto_history r h (omega arith)))
+-- the first i of the entries stand there
+abbrev pub StandsTo : List Entry → ℕ → ℕ → List What → ℕ → Type 0
+StandsTo h r k ws i = history (take (r + i) h) ≡ extended k (take i ws) (history (take r h))
 
-abbrev write_of : ℕ → List Change → Entry
-write_of k cs = record { actor = k; what = Write cs }
+pub stand_none : (h : List Entry) (r k : ℕ) (ws : List What) → StandsTo h r k ws 0
+stand_none h r k ws = ap (λ (n : ℕ). history (take n h)) (add-zero r)
 
-abbrev commit_of : ℕ → Entry
-commit_of k = record { actor = k; what = Commit }
+pub stand_more : (h : List Entry) (r k i : ℕ) (ws : List What) (e : Entry) (w : What) → r + i < length h → i < length ws → e ≡ get_or h (r + i) e → w ≡ get_or ws i w
+    → e ≡ record { actor = k; what = w } → StandsTo h r k ws i → StandsTo h r k ws (i + 1)
+stand_more h r k i ws e w lh lw at_h at_ws is so =
+    let step : r + (i + 1) ≡ (r + i) + 1 = omega arith in
+    let X = history (take r h) in
+    ap (λ (n : ℕ). history (take n h)) step ∙ history_more h (r + i) e lh at_h ∙ ap (λ (Y : History). Y ▷ e) so ∙ ap (λ (x : Entry). extended k (take i ws) X ▷ x) is
+    ∙ sym (ap (λ (vs : List What). extended k vs X) (take_more ws i w lw ∙ ap (λ (v : What). take i ws ++ v ∷ []) (sym at_ws)) ∙ extended-append k (take i ws) (w ∷ []) X)
 
-pub stand_here : (h : List Entry) (r k : ℕ) (cs : List Change) (e1 e2 : Entry) → 0 < length cs → r + 1 < length h → e1 ≡ get_or h r e1 → e2 ≡ get_or h (r + 1) e2
-    → e1 ≡ write_of k cs → e2 ≡ commit_of k → IsStand (history h) r k (committed cs) (Some (r + 2))
-stand_here h r k [] e1 e2 some lt at1 at2 is1 is2 = absurd (omega arith)
-stand_here h r k (c ∷ cs) e1 e2 some lt at1 at2 is1 is2 = (
+pub stand_all : (h : List Entry) (r k : ℕ) (ws : List What) → r + length ws ≤ length h → StandsTo h r k ws (length ws) → IsStand (history h) r k ws (Some (r + length ws))
+stand_all h r k ws le so = (
   refl,
   omega (arith, length_history h),
-  two_more h r e1 e2 lt at1 at2 ∙ ap (λ (e : Entry). upto r (history h) ▷ e ▷ e2) is1 ∙ ap (λ (e : Entry). upto r (history h) ▷ write_of k (c ∷ cs) ▷ e) is2,
+  upto_history (r + length ws) h le ∙ so ∙ ap (λ (vs : List What). extended k vs (history (take r h))) (take_all (length ws) ws (omega arith))
+      ∙ ap (extended k ws) (sym (upto_history r h (omega arith))),
 )
 
-heads : (X Y : History) (a b c d : Entry) → a ∷ b ∷ X ≡ c ∷ d ∷ Y → (a ≡ c) × (b ≡ d)
-heads X Y a b c d e = (cc, cc)
+one_head : (X Y : History) (a b : Entry) → a ∷ X ≡ b ∷ Y → a ≡ b
+one_head X Y a b e = (cc)
 
-pub stand_parts : (h : List Entry) (r k : ℕ) (cs : List Change) (e1 e2 : Entry) → 0 < length cs → r + 1 < length h → e1 ≡ get_or h r e1 → e2 ≡ get_or h (r + 1) e2
-    → upto (r + length (committed cs)) (history h) ≡ extended k (committed cs) (upto r (history h)) → (e2 ≡ commit_of k) × (e1 ≡ write_of k cs)
-stand_parts h r k [] e1 e2 some lt at1 at2 e = absurd (omega arith)
-stand_parts h r k (c ∷ cs) e1 e2 some lt at1 at2 e =
-    heads (upto r (history h)) (upto r (history h)) e2 e1 (commit_of k) (write_of k (c ∷ cs)) (sym (two_more h r e1 e2 lt at1 at2) ∙ e)
+-- where the entries stand, each is the next one
+pub stand_part : (h : List Entry) (r k i : ℕ) (ws : List What) (e : Entry) (w : What) → r + length ws ≤ length h → i < length ws → e ≡ get_or h (r + i) e → w ≡ get_or ws i w
+    → StandsTo h r k ws i → upto (r + length ws) (history h) ≡ extended k ws (upto r (history h)) → e ≡ record { actor = k; what = w }
+stand_part h r k i ws e w le lw at_h at_ws so all =
+    let H = history h in
+    let X = history (take r h) in
+    let Y = extended k (take i ws) X in
+    let x : Entry = record { actor = k; what = w } in
+    let n = (r + i) + 1 in
+    let rest = drop (i + 1) ws in
+    let long : length Y ≡ r + i = ap length (sym so) ∙ length_history (take (r + i) h) ∙ length-take-le (r + i) h (omega arith) in
+    let parts : ws ≡ take i ws ++ w ∷ rest =
+    sym (take-append-drop i ws) ∙ ap (λ (vs : List What). take i ws ++ vs) (drop_more ws i w lw ∙ ap (λ (v : What). v ∷ rest) (sym at_ws)) in
+    let made : extended k ws (upto r H) ≡ extended k rest (Y ▷ x) =
+    ap (extended k ws) (upto_history r h (omega arith)) ∙ ap (λ (vs : List What). extended k vs X) parts ∙ extended-append k (take i ws) (w ∷ rest) X in
+    let here : upto n H ≡ history (take (r + i) h) ▷ e = upto_history n h (omega arith) ∙ history_more h (r + i) e (omega arith) at_h in
+    let there : upto n H ≡ Y ▷ x =
+    sym (upto-upto n (r + length ws) H (omega arith)) ∙ ap (upto n) (all ∙ made) ∙ upto-extended n k rest (Y ▷ x) (omega (arith, long)) ∙ upto_all n (Y ▷ x) (omega (arith, long)) in
+    one_head (history (take (r + i) h)) Y e x (sym here ∙ there)
 
 length_within : (r : ℕ) (H : History) → length (upto r H) ≤ length H
 length_within r [] = omega arith
@@ -55,21 +68,16 @@ length_within r (e ∷ H) = go (nat_lt (length H) r) (length_within r H) where
 length_upto : (h : List Entry) (r : ℕ) → r ≤ length h → length (upto r (history h)) ≡ r
 length_upto h r le = ap length (upto_history r h le) ∙ length_history (take r h) ∙ length-take-le r h le
 
-pub stand_short : (h : List Entry) (r k : ℕ) (cs : List Change) → 0 < length cs → r ≤ length h → length h - r < 2
-    → upto (r + length (committed cs)) (history h) ≡ extended k (committed cs) (upto r (history h)) → ⊥
-stand_short h r k [] some le short e = absurd (omega arith)
-stand_short h r k (c ∷ cs) some le short e =
-    let told = ap length e ∙ length-extended k (committed (c ∷ cs)) (upto r (history h)) in
-    omega (arith, told, length_within (r + 2) (history h), length_upto h r le, length_history h)
+pub stand_short : (h : List Entry) (r k : ℕ) (ws : List What) → r ≤ length h → length h - r < length ws → upto (r + length ws) (history h) ≡ extended k ws (upto r (history h)) → ⊥
+stand_short h r k ws le short e =
+    let told = ap length e ∙ length-extended k ws (upto r (history h)) in
+    omega (arith, told, length_within (r + length ws) (history h), length_upto h r le, length_history h)
 
 -- an actor's entries between two places
 between : (h : List Entry) (k from to : ℕ) → from ≤ to
     → own k (history (take to h)) ≡ own k (reverse (drop from (take to h))) ++ own k (history (take from h))
 between h k from to le =
-    ap (λ (xs : List Entry). own k (history xs)) (sym (take-append-drop from (take to h)))
-    ∙ ap (own k) (reverse-append (take from (take to h)) (drop from (take to h)))
-    ∙ filter-append (λ e. e.actor == k) (reverse (drop from (take to h))) (reverse (take from (take to h)))
-    ∙ ap (λ (xs : List Entry). own k (reverse (drop from (take to h))) ++ own k (history xs)) (take-take from to h le)
+    ap (own k) (front_later h from to le) ∙ filter-append (λ e. e.actor == k) (reverse (drop from (take to h))) (history (take from h))
 
 own_more : (k : ℕ) (H : History) (e : Entry) → e.actor ≡ k → own k (H ▷ e) ≡ e ∷ own k H
 own_more k H e is = ap (λ b. cond b (e ∷ own k H) (own k H)) (eq-eqb e.actor k is)

@@ -12,7 +12,7 @@ use Rattle.s2_model.proofs.Timestamps.{own-extended}
 use Rattle.s2_legal.specs.Built.{is_built_stmt, are_built}
 use Rattle.s2_legal.specs.Faults.{AreRight}
 use Rattle.s2_legal.specs.Sessions.{IsFirstWrong}
-use Rattle.s2_legal.specs.World.{IsEnd, IsNext}
+use Rattle.s2_legal.specs.World.{IsEnd, IsNext, PinIsLast}
 use Rattle.s2_legal.proofs.Answering.{next_of, meets_of}
 
 -- the stand after i replies, and that the steps from here on are right where all are
@@ -43,13 +43,22 @@ module _ (schema : Schema) (options : Options) (marks : ℕ → ℕ → Bool) (H
   }
 
   module _ (i floor was : ℕ) (s : Stmt) (stmts : List Stmt) (d : Said) (saids : List Said) (b : are_built H ≡ true) (sb : is_built_stmt s ≡ true)
-      (st : Stands schema options marks H k faults allstmts allsaids i floor was (s ∷ stmts) (d ∷ saids)) where
+      (place : floor ≤ length H) (last : PinIsLast (upto floor H) k) (st : Stands schema options marks H k faults allstmts allsaids i floor was (s ∷ stmts) (d ∷ saids)) where
+    here : floor ≡ st.w.floor
+    here = sym st.floor_is
+
+    low : st.w.floor ≤ length H
+    low = subst (λ (f : ℕ). f ≤ length H) here place
+
+    pinned : PinIsLast (upto st.w.floor H) k
+    pinned = subst (λ (f : ℕ). PinIsLast (upto f H) k) here last
+
     next : (es : List What) → Meets schema options marks H k st.w s d es → IsNext schema H k floor was s d es
     next es m = subst (λ (f : ℕ). IsNext schema H k f was s d es) st.floor_is (subst (λ (f : ℕ). IsNext schema H k st.w.floor f s d es) st.faults_is
-        (next_of schema options marks H k st.w s d es b sb st.made_is m))
+        (next_of schema options marks H k st.w s d es b sb st.made_is low pinned m))
 
     meets : (es : List What) → IsNext schema H k floor was s d es → Meets schema options marks H k st.w s d es
-    meets es n = meets_of schema options marks H k st.w s d es b sb st.made_is
+    meets es n = meets_of schema options marks H k st.w s d es b sb st.made_is low pinned
         (subst (λ (f : ℕ). IsNext schema H k f st.w.faults s d es) (sym st.floor_is) (subst (λ (f : ℕ). IsNext schema H k floor f s d es) (sym st.faults_is) n))
 
     pub stands_next : (end : ℕ) → IsEnd H d.r (IsNext schema H k floor was s d) (Some end)

@@ -9,7 +9,7 @@ use Rattle.s2_model.specs.declared.statements.Select.{Select}
 use Rattle.s2_model.specs.Predicates.{Predicate}
 use Rattle.s2_model.specs.Rows.{matches}
 use Rattle.s2_model.specs.Answer.{kept, answer_items, answer}
-use Rattle.s2_legal.specs.World.{is_put, is_left}
+use Rattle.s2_legal.specs.Lasts.{is_put, is_left}
 
 some_step : (b : Bool) (x : RowOf) (was : Option RowOf) → is_some (cond b (Some x) was) ≡ cond b true (is_some was)
 some_step true x was = refl

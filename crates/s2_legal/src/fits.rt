@@ -1,5 +1,5 @@
 //! Whether entries fit the history before them.
-ghost use Rattle.std.specs.Prelude.{◌≡◌, ◌↔◌, ◌≤◌, ◌<◌, ◌||◌, ◌&&◌, ◌==◌, IsTrue, IfOk, MatchOption, true, suc, length, map, filter, take, nat_lt, nat_le};
+ghost use Rattle.std.specs.Prelude.{◌≡◌, ◌↔◌, ◌≤◌, ◌<◌, ◌||◌, ◌&&◌, ◌==◌, IsTrue, IfOk, MatchOption, not, true, suc, length, map, filter, take, nat_lt, nat_le};
 ghost use Rattle.std.specs.List.{list_all};
 ghost use Rattle.s2_model.specs.declared.scripts.Options.{Options};
 ghost use Rattle.s2_model.specs.Table.{number_of};
@@ -7,7 +7,9 @@ ghost use Rattle.s2_model.specs.History.{history, is_session};
 ghost use Rattle.s2_model.specs.Fits.{rise, put_fits, put_on_from, follows_write, is_write, Fits, AllFit};
 ghost use Rattle.s2_legal.specs.Built.{is_built_what, are_built};
 ghost use Rattle.s2_legal.specs.Faults.{IsFirstUnfit};
-ghost use Rattle.s2_legal.specs.World.{IsWorld, is_put, is_writable_in, write_fits_in};
+ghost use Rattle.s2_legal.specs.Lasts.{is_put};
+ghost use Rattle.s2_legal.specs.Knows.{IsKept, Knows};
+ghost use Rattle.s2_legal.specs.World.{flag_of, is_writable_in, write_fits_in};
 
 use crate::world::{World, holder, sees};
 use s2_model::{Change, Entry, What};
@@ -116,10 +118,11 @@ fn run_on(greatest: u64, changes: &[Change]) -> bool
 }
 
 fn write_fits(schema: &Schema, world: &World, k: u8, changes: &[Change]) -> bool
-    requires { length world.now.writes.items ≡ 256 }
-    ensures { result ≡ write_fits_in schema.now world.now.rows.entries world.now.writes.items world.now.greatest k changes.now }
+    requires { IsKept schema.now world.now }
+    ensures { result ≡ write_fits_in schema.now world.now.rows.entries world.now.writes.items world.now.greatest (flag_of world.now.pinned.items k) k changes.now }
 {
     is_session(k)
+        && !world.is_pinned(k)
         && changes.len() > 0
         && changes.len() <= MOST_CHANGES
         && rise(changes)
@@ -149,16 +152,30 @@ fn follows_write(h: &[Entry], i: usize, k: u8) -> bool
     entry.actor == k && is_write(&entry.what)
 }
 
+/// Whether a session may begin a transaction: it is in none.
+fn may_begin(world: &World, k: u8) -> bool
+    requires running { length world.now.running.items ≡ 256 }
+    requires pinned { length world.now.pinned.items ≡ 256 }
+    ensures { result ≡ (is_session k && not (flag_of world.now.running.items k) && not (flag_of world.now.pinned.items k)) }
+{
+    is_session(k) && !world.is_running(k) && !world.is_pinned(k)
+}
+
 /// Whether an entry fits the first `i` entries.
 fn fits(schema: &Schema, world: &World, h: &[Entry], i: usize, entry: &Entry) -> bool
-    requires actors { length world.now.writes.items ≡ 256 }
+    requires kept { IsKept schema.now world.now }
     requires place { i ≤ length h.now }
     requires built { is_built_what entry.now.what ≡ true }
-    ensures { (options : Options) → IsWorld world.now.rows.entries world.now.writes.items world.now.greatest (history (take i h.now)) → are_built (history (take i h.now)) ≡ true → AllFit schema.now options (history (take i h.now)) → (IsTrue result ↔ Fits schema.now options (history (take i h.now)) entry.now) }
+    ensures { (options : Options) → Knows schema.now world.now (history (take i h.now)) → are_built (history (take i h.now)) ≡ true → AllFit schema.now options (history (take i h.now)) → (IsTrue result ↔ Fits schema.now options (history (take i h.now)) entry.now) }
 {
+    let k = entry.actor;
     match &entry.what {
-        What::Write(changes) => write_fits(schema, world, entry.actor, changes.as_slice()),
-        What::Commit => follows_write(h, i, entry.actor),
+        What::Begin => may_begin(world, k),
+        What::Write(changes) => write_fits(schema, world, k, changes.as_slice()),
+        What::Commit => world.is_running(k) || follows_write(h, i, k),
+        What::Rollback => world.is_running(k),
+        What::Pin => may_begin(world, k),
+        What::Unpin => world.is_pinned(k),
         _ => false,
     }
 }
@@ -172,12 +189,12 @@ pub(crate) fn first_unfit(
     requires { are_built h.now ≡ true }
     ensures { IfOk result (λ o. (options : Options) → MatchOption o (AllFit schema.now options (history h.now)) (λ n. IsFirstUnfit schema.now options (history h.now) n)) }
 {
-    let mut world = World::new(alloc)?;
+    let mut world = World::new(alloc, schema)?;
     for (i, entry) in h.iter().enumerate() {
         if !fits(schema, &world, h, i, entry) {
             return Ok(Some(i as u64 + 1));
         }
-        world.step(alloc, entry)?;
+        world.step(alloc, schema, entry)?;
     }
     Ok(None)
 }

@@ -34,11 +34,12 @@ fn fault_of(alloc: Global, script: &Script, run: &Outcome, k: u8) -> Result<Opti
     requires session { is_session k ≡ true }
     ensures { IfOk result (IsFaultOf script.now run.now k) }
 {
+    let schema = &script.schema;
     let lines = script.lines.as_slice();
     let h = run.history.as_slice();
     match transcript_of(run.transcripts.as_slice(), k) {
-        Some(t) => first_wrong(alloc, lines, h, k, t.said.as_slice(), t.faults),
-        None => first_wrong(alloc, lines, h, k, &[], 0),
+        Some(t) => first_wrong(alloc, schema, lines, h, k, t.said.as_slice(), t.faults),
+        None => first_wrong(alloc, schema, lines, h, k, &[], 0),
     }
 }
 

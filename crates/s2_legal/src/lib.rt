@@ -6,6 +6,7 @@ mod fits;
 #[cfg(test)]
 mod generated;
 mod judge;
+mod keys;
 mod laws;
 mod opens;
 mod replies;

@@ -3,7 +3,7 @@ ghost use Rattle.std.specs.Prelude.{◌≡◌, ◌++◌, ◌∷◌, [], IfOk, On
 ghost use Rattle.std.specs.BTreeMap.{get};
 ghost use Rattle.std.specs.Ordering.{nat_cmp};
 ghost use Rattle.s2_model.specs.Table.{touches};
-ghost use Rattle.s2_legal.specs.World.{KnowsLast, is_put, is_left};
+ghost use Rattle.s2_legal.specs.Lasts.{KnowsLast, is_put, is_left};
 
 use s2_model::Change;
 use s2_slow::number_of;
@@ -16,7 +16,7 @@ use std::mem;
 /// The changes of an actor's open writes in their order, and of each row that they change whether the last of them puts it.
 /// In contracts it is the list of the changes.
 #[derive(Drop)]
-pub(crate) struct OpenWrites {
+pub struct OpenWrites {
     changes: Vec<Change>,
     puts: BTreeMap<u64, bool>,
 }
@@ -26,7 +26,7 @@ impl Model for OpenWrites {
     ghost use Rattle.std.specs.BTreeMap.{get};
     ghost use Rattle.std.specs.Ordering.{nat_cmp};
     ghost use Rattle.s2_model.specs.declared.entries.Change.{Change as AnyChange};
-    ghost use Rattle.s2_legal.specs.World.{KnowsLast};
+    ghost use Rattle.s2_legal.specs.Lasts.{KnowsLast};
 
     ghost Value = { List AnyChange };
 

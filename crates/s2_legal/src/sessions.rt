@@ -1,7 +1,6 @@
 //! The first fault of a session's replies.
 ghost use Rattle.std.specs.Prelude.{◌≡◌, ◌∷◌, ◌<◌, ◌≤◌, ℕ, Bool, [], IfOk, MatchOption, true, length};
 ghost use Rattle.std.specs.List.{list_all};
-ghost use Rattle.s2_value.specs.declared.schemas.Schema.{Schema};
 ghost use Rattle.s2_model.specs.declared.scripts.Options.{Options};
 ghost use Rattle.s2_model.specs.History.{history};
 ghost use Rattle.s2_model.specs.Legal.{stmts_of};
@@ -12,7 +11,7 @@ ghost use Rattle.s2_legal.specs.Sessions.{IsNextLine, IsFirstWrong};
 use crate::replies::{is_quiet, next_end};
 use crate::world::World;
 use s2_model::{Entry, Line, Said, Stmt};
-use s2_value::Memory;
+use s2_value::{Memory, Schema};
 use std::alloc::Global;
 
 /// The session's next statement among the lines, with the lines after it.
@@ -33,6 +32,7 @@ fn next_line(lines: &[Line], k: u8) -> Option<(&Stmt, &[Line])>
 /// The first step of the session, counted from 1, that is wrong: a reply, or its end.
 pub(crate) fn first_wrong(
     alloc: Global,
+    schema: &Schema,
     lines: &[Line],
     h: &[Entry],
     k: u8,
@@ -43,9 +43,9 @@ pub(crate) fn first_wrong(
     requires built { are_built (history h.now) ≡ true }
     requires stmts { list_all (λ l. is_built_stmt l.stmt) lines.now ≡ true }
     requires even { length said.now ≡ length (stmts_of k lines.now) }
-    ensures { IfOk result (λ o. (schema : Schema) (options : Options) (marks : ℕ → ℕ → Bool) → schema.uniques ≡ [] → IsFirstWrong schema options marks (history h.now) k faults (stmts_of k lines.now) said.now o) }
+    ensures { IfOk result (λ o. (options : Options) (marks : ℕ → ℕ → Bool) → IsFirstWrong schema.now options marks (history h.now) k faults (stmts_of k lines.now) said.now o) }
 {
-    let mut world = World::new(alloc)?;
+    let mut world = World::new(alloc, schema)?;
     let mut floor = 0;
     let mut was = 0;
     let mut left = lines;
@@ -53,7 +53,7 @@ pub(crate) fn first_wrong(
         let Some((stmt, rest)) = next_line(left, k) else {
             return Ok(None);
         };
-        match next_end(alloc, &mut world, h, floor, was, k, stmt, next)? {
+        match next_end(alloc, schema, &mut world, h, floor, was, k, stmt, next)? {
             Some(end) => floor = end,
             None => return Ok(Some(i as u64 + 1)),
         }

@@ -11,8 +11,12 @@ fn is_built_what(what: &What) -> bool
     ensures { result ≡ is_built_what what.now }
 {
     match what {
+        What::Begin => true,
         What::Write(_) => true,
         What::Commit => true,
+        What::Rollback => true,
+        What::Pin => true,
+        What::Unpin => true,
         _ => false,
     }
 }
@@ -25,6 +29,10 @@ fn is_built_stmt(stmt: &Stmt) -> bool
         Stmt::Update(_, _) => true,
         Stmt::Delete(_) => true,
         Stmt::Select(_) => true,
+        Stmt::Begin => true,
+        Stmt::BeginReadOnly => true,
+        Stmt::Commit => true,
+        Stmt::Rollback => true,
         _ => false,
     }
 }
@@ -41,14 +49,12 @@ fn are_built_lines(lines: &[Line]) -> bool
     lines.iter().all(|line| is_built_stmt(&line.stmt))
 }
 
-/// Whether the outcome is of the built kinds: its entries are writes and commits, each statement is an INSERT, UPDATE, DELETE or SELECT, and the table has no unique key.
+/// Whether the outcome is of the built kinds: each entry is a write, or opens or ends a transaction, and each statement is an INSERT, UPDATE, DELETE or SELECT, or opens or ends a transaction.
 /// It takes no memory, and goes once over the script and the history.
 pub fn is_built(script: &Script, run: &Outcome) -> bool
     ensures { IsTrue result ↔ IsBuilt script.now run.now }
 {
-    are_built(run.history.as_slice())
-        && are_built_lines(script.lines.as_slice())
-        && script.schema.uniques.len() == 0
+    are_built(run.history.as_slice()) && are_built_lines(script.lines.as_slice())
 }
 
 fn count_lines(lines: &[Line], k: u8) -> usize

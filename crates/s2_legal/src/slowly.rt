@@ -82,6 +82,10 @@ fn follows_write(h: &[Entry], k: u8) -> bool {
     }
 }
 
+fn may_begin(h: &[Entry], k: u8) -> bool {
+    is_unpinned(h, k) && !is_running(h, k)
+}
+
 /// Whether the entry fits the history before it.
 pub(crate) fn entry_fits(
     alloc: Global,
@@ -96,7 +100,11 @@ pub(crate) fn entry_fits(
             let is_right = 1 <= count && count <= 65_536 && is_unpinned(h, k);
             Ok(is_right && changes_fit(alloc, schema, h, k, changes.as_slice())?)
         }
+        What::Begin => Ok(may_begin(h, k)),
         What::Commit => Ok(is_running(h, k) || follows_write(h, k)),
+        What::Rollback => Ok(is_running(h, k)),
+        What::Pin => Ok(may_begin(h, k)),
+        What::Unpin => Ok(pin_of(h, k).is_some()),
         _ => Ok(false),
     }
 }
@@ -138,6 +146,10 @@ fn count_own(h: &[Entry], k: u8) -> usize {
     h.iter().filter(|entry| entry.actor == k).count()
 }
 
+pub(crate) fn ends(stmt: &Stmt) -> bool {
+    matches!(stmt, Stmt::Commit | Stmt::Rollback)
+}
+
 /// How many entries the reply made, if it is right.
 fn made(
     alloc: Global,
@@ -157,10 +169,10 @@ fn made(
             Ok(None)
         };
     }
-    match reply {
-        Reply::Refused(Refusal::Memory) => Ok(Some(0)),
-        _ => Ok(None),
+    if matches!(reply, Reply::Refused(Refusal::Memory)) && !ends(stmt) {
+        return Ok(Some(0));
     }
+    Ok(None)
 }
 
 /// Where the last reply's entries ended, how many entries the session made, and its last fault count.
@@ -169,6 +181,17 @@ struct Stand {
     floor: u64,
     made: usize,
     faults: u64,
+}
+
+/// Whether the statement is read at this time: at the session's pin, or from its last reply's end on.
+fn reads_at(h: &[Entry], k: u8, floor: u64, stmt: &Stmt, r: u64) -> bool {
+    if floor > h.len() as u64 {
+        return false;
+    }
+    match pin_of(&h[..floor as usize], k) {
+        Some(t) if !ends(stmt) => r == t as u64,
+        _ => floor <= r,
+    }
 }
 
 /// The stand after a reply, if it is right.
@@ -181,7 +204,10 @@ fn next_stand(
     stmt: &Stmt,
     said: &Said,
 ) -> Result<Option<Stand>, Memory> {
-    if said.r < stand.floor || said.r > h.len() as u64 || said.faults < stand.faults {
+    if said.r > h.len() as u64 || said.faults < stand.faults {
+        return Ok(None);
+    }
+    if !reads_at(h, k, stand.floor, stmt, said.r) {
         return Ok(None);
     }
     let (before, after) = h.split_at(said.r as usize);

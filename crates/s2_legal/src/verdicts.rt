@@ -1,18 +1,23 @@
-//! The verdict on a statement outside transactions, of a table without unique keys.
-ghost use Rattle.std.specs.Prelude.{◌≡◌, ◌≤◌, ◌<◌, [], IfOk, IfSome, OnOk, true, suc, length, map, is_none, unwrap_or, if◌then◌else◌, Some, None};
-ghost use Rattle.s2_value.specs.declared.schemas.Schema.{Schema};
-ghost use Rattle.s2_model.specs.Table.{rises_above};
+//! The verdict on a statement.
+ghost use Rattle.std.specs.Prelude.{◌≡◌, ◌≤◌, ◌||◌, [], ◌∷◌, IfOk, IfSome, true, suc, length, map, is_none, unwrap_or, if◌then◌else◌, Some, None};
+ghost use Rattle.std.specs.List.{list_all};
+ghost use Rattle.std.specs.Option.{option_or};
+ghost use Rattle.s2_model.specs.Table.{apply, rises_above};
 ghost use Rattle.s2_model.specs.Rows.{after};
-ghost use Rattle.s2_model.specs.Answer.{answer};
+ghost use Rattle.s2_model.specs.Answer.{answer, kept};
 ghost use Rattle.s2_model.specs.History.{History};
-ghost use Rattle.s2_model.specs.Verdict.{first_some, out_of_range, puts_from, matched, updated, verdict};
-ghost use Rattle.s2_legal.specs.Built.{is_built_stmt, are_built};
-ghost use Rattle.s2_legal.specs.World.{IsWorld, view_in, locked_in, changes_from, write_in, room_in, ruled, is_ruled, is_ruled_refusal};
+ghost use Rattle.s2_model.specs.Verdict.{first_some, out_of_range, puts_from, matched, updated, entries_of, written, says, makes, verdict};
+ghost use Rattle.s2_legal.specs.Built.{is_built_stmt, is_built_what, are_built};
+ghost use Rattle.s2_legal.specs.Knows.{IsKept, Knows};
+ghost use Rattle.s2_legal.specs.World.{IsAtPin, flag_of, seen_in, view_in, locked_in, locked_value_in, duplicate_in, changes_from, write_in, is_ruled, is_ruled_refusal};
+ghost use Rattle.s2_legal.specs.Rulings.{begin_in, end_in, later_refusal_in, open_write_in, write_ruling_in};
 
+use crate::keys::{duplicate, locked_value};
+use crate::tables::kept_rows;
 use crate::world::{World, holder, matching};
 use s2_answer::answer;
-use s2_model::{Change, Refusal, Reply, Select, SetList, Stmt, after};
-use s2_value::{Duplicate, Memory, Row};
+use s2_model::{Change, Condition, Refusal, Reply, Select, SetList, Stmt, What, after};
+use s2_value::{Duplicate, Memory, Row, Schema, Seq};
 use std::alloc::{AllocError, Global};
 
 /// The last length of a history at which a statement that appends is taken.
@@ -21,26 +26,26 @@ const LAST_LENGTH: usize = 4_194_240;
 /// The most rows that a statement inserts, updates or deletes.
 const MOST_ROWS: usize = 65_536;
 
-/// A reply, and the changes that are written and committed with it.
+/// A reply, and the entries that are made with it.
 #[derive(Drop)]
 pub(crate) struct Ruled {
     pub reply: Reply,
-    pub changes: Vec<Change>,
+    pub makes: Vec<What>,
 }
 
 fn says(alloc: Global, reply: Reply) -> Ruled
     ensures reply { result.reply ≡ reply }
-    ensures changes { result.changes.items ≡ [] }
+    ensures makes { result.makes.items ≡ [] }
 {
     Ruled {
         reply,
-        changes: Vec::new(alloc),
+        makes: Vec::new(alloc),
     }
 }
 
 fn refused(alloc: Global, refusal: Refusal) -> Ruled
     ensures reply { result.reply ≡ Reply.Refused refusal }
-    ensures changes { result.changes.items ≡ [] }
+    ensures makes { result.makes.items ≡ [] }
 {
     says(alloc, Reply::Refused(refusal))
 }
@@ -179,80 +184,259 @@ fn changes(
     }
 }
 
-/// What a write of these rows and changes answers where the history has room.
+/// The entries of a write, which is committed at once where its actor isn't in a transaction.
+fn entries_of(alloc: Global, running: bool, changes: Vec<Change>) -> Result<Vec<What>, Memory>
+    ensures makes { IfOk result (λ v. v.items ≡ entries_of running changes.items) }
+    ensures entries { IfOk result (λ v. list_all is_built_what v.items ≡ true) }
+{
+    let mut makes = Vec::new(alloc);
+    makes.push(What::Write(Seq::from_vec(changes)))?;
+    if !running {
+        makes.push(What::Commit)?;
+    }
+    Ok(makes)
+}
+
+/// A write without a refusal.
+fn written(alloc: Global, running: bool, changes: Vec<Change>) -> Result<Ruled, Memory>
+    requires { length changes.items ≤ 65536 }
+    ensures rules { IfOk result (λ r. written [] running changes.items ≡ makes r.reply r.makes.items) }
+    ensures kind { IfOk result (λ r. is_ruled r.reply ≡ true) }
+    ensures entries { IfOk result (λ r. list_all is_built_what r.makes.items ≡ true) }
+{
+    let count = changes.len() as u32;
+    if count == 0 {
+        return Ok(says(alloc, Reply::Changed(0)));
+    }
+    let makes = entries_of(alloc, running, changes)?;
+    let reply = Reply::Changed(count);
+    Ok(Ruled { reply, makes })
+}
+
+/// The first refusal by rows: one that another holds, then one of which a sum leaves 64 bits.
+fn row_refusal(
+    alloc: Global,
+    world: &World,
+    k: u8,
+    stmt: &Stmt,
+    rows: &[(u64, Row)],
+) -> Result<Option<Refusal>, Memory>
+    requires { length world.now.writes.items ≡ 256 }
+    ensures first { IfOk result (λ r. r ≡ option_or (locked_in world.now.writes.items k rows.now) (out_of_range stmt.now rows.now)) }
+    ensures kind { IfOk result (λ o. IfSome o (λ r. is_ruled_refusal r ≡ true)) }
+{
+    if let Some(refusal) = locked(world, k, rows) {
+        return Ok(Some(refusal));
+    }
+    out_of_range(alloc, stmt, rows)
+}
+
+/// The first refusal by keys: a value that another holds, then one that another row has.
+fn key_refusal(
+    alloc: Global,
+    schema: &Schema,
+    world: &World,
+    k: u8,
+    changes: &[Change],
+) -> Result<Option<Refusal>, Memory>
+    requires kept { IsKept schema.now world.now }
+    requires table { rises_above 0 (apply (view_in world.now.rows.entries world.now.writes.items k) changes.now) ≡ true }
+    ensures first { IfOk result (λ r. r ≡ option_or (locked_value_in world.now.rows.entries world.now.writes.items k schema.now.uniques changes.now) (duplicate_in world.now.rows.entries world.now.writes.items k schema.now.uniques changes.now)) }
+    ensures kind { IfOk result (λ o. IfSome o (λ r. is_ruled_refusal r ≡ true)) }
+{
+    if let Some(refusal) = locked_value(alloc, schema, world, k, changes)? {
+        return Ok(Some(refusal));
+    }
+    duplicate(alloc, schema, world, k, changes)
+}
+
+/// The first refusal of a write of few enough rows.
+fn later_refusal(
+    alloc: Global,
+    schema: &Schema,
+    world: &World,
+    k: u8,
+    stmt: &Stmt,
+    rows: &[(u64, Row)],
+    changes: &[Change],
+) -> Result<Option<Refusal>, Memory>
+    requires kept { IsKept schema.now world.now }
+    requires table { rises_above 0 (apply (view_in world.now.rows.entries world.now.writes.items k) changes.now) ≡ true }
+    ensures first { IfOk result (λ r. r ≡ later_refusal_in schema.now.uniques world.now.rows.entries world.now.writes.items k stmt.now rows.now changes.now) }
+    ensures kind { IfOk result (λ o. IfSome o (λ r. is_ruled_refusal r ≡ true)) }
+{
+    if let Some(refusal) = row_refusal(alloc, world, k, stmt, rows)? {
+        return Ok(Some(refusal));
+    }
+    key_refusal(alloc, schema, world, k, changes)
+}
+
+/// What a write of these rows and changes answers outside a pin, where the history has room.
 fn write(
     alloc: Global,
+    schema: &Schema,
     world: &World,
     k: u8,
     stmt: &Stmt,
     rows: &[(u64, Row)],
     changes: Vec<Change>,
 ) -> Result<Ruled, Memory>
-    requires { length world.now.writes.items ≡ 256 }
-    ensures rules { IfOk result (λ r. write_in world.now.writes.items k stmt.now rows.now changes.items ≡ ruled r.reply r.changes.items) }
+    requires kept { IsKept schema.now world.now }
+    requires table { rises_above 0 (apply (view_in world.now.rows.entries world.now.writes.items k) changes.items) ≡ true }
+    ensures rules { IfOk result (λ r. write_in schema.now.uniques world.now.rows.entries world.now.writes.items (flag_of world.now.running.items k) k stmt.now rows.now changes.items ≡ makes r.reply r.makes.items) }
     ensures kind { IfOk result (λ r. is_ruled r.reply ≡ true) }
+    ensures entries { IfOk result (λ r. list_all is_built_what r.makes.items ≡ true) }
 {
-    let count = changes.len();
-    if count > MOST_ROWS {
+    if changes.len() > MOST_ROWS {
         return Ok(refused(alloc, Refusal::TooManyRows));
     }
-    if let Some(refusal) = locked(world, k, rows) {
-        return Ok(refused(alloc, refusal));
+    match later_refusal(alloc, schema, world, k, stmt, rows, &changes)? {
+        Some(refusal) => Ok(refused(alloc, refusal)),
+        None => written(alloc, world.is_running(k), changes),
     }
-    if let Some(refusal) = out_of_range(alloc, stmt, rows)? {
-        return Ok(refused(alloc, refusal));
-    }
-    let reply = Reply::Changed(count as u32);
-    Ok(Ruled { reply, changes })
+}
+
+/// What a write answers outside a pin, where the history has room.
+fn open_write(
+    alloc: Global,
+    schema: &Schema,
+    world: &World,
+    k: u8,
+    stmt: &Stmt,
+) -> Result<Ruled, Memory>
+    requires kept { IsKept schema.now world.now }
+    requires rising { rises_above 0 (view_in world.now.rows.entries world.now.writes.items k) ≡ true }
+    ensures rules { IfOk result (λ r. open_write_in schema.now.uniques world.now k stmt.now ≡ makes r.reply r.makes.items) }
+    ensures kind { IfOk result (λ r. is_ruled r.reply ≡ true) }
+    ensures entries { IfOk result (λ r. list_all is_built_what r.makes.items ≡ true) }
+{
+    let rows = matched(alloc, world, k, stmt)?;
+    let changes = changes(alloc, world.greatest, stmt, &rows)?;
+    write(alloc, schema, world, k, stmt, &rows, changes)
 }
 
 fn write_ruling(
     alloc: Global,
+    schema: &Schema,
     world: &World,
     count: usize,
     k: u8,
     stmt: &Stmt,
 ) -> Result<Ruled, Memory>
-    requires { length world.now.writes.items ≡ 256 }
-    ensures rules { IfOk result (λ r. room_in count (write_in world.now.writes.items k stmt.now (matched stmt.now (view_in world.now.rows.entries world.now.writes.items k)) (changes_from stmt.now (matched stmt.now (view_in world.now.rows.entries world.now.writes.items k)) (suc world.now.greatest))) ≡ ruled r.reply r.changes.items) }
+    requires kept { IsKept schema.now world.now }
+    requires rising { rises_above 0 (seen_in (flag_of world.now.pinned.items k) world.now.rows.entries world.now.writes.items k) ≡ true }
+    ensures rules { IfOk result (λ r. write_ruling_in schema.now.uniques world.now count k stmt.now ≡ makes r.reply r.makes.items) }
     ensures kind { IfOk result (λ r. is_ruled r.reply ≡ true) }
+    ensures entries { IfOk result (λ r. list_all is_built_what r.makes.items ≡ true) }
 {
+    if world.is_pinned(k) {
+        return Ok(refused(alloc, Refusal::ReadOnly));
+    }
     if count > LAST_LENGTH {
         return Ok(refused(alloc, Refusal::LogFull));
     }
-    let rows = matched(alloc, world, k, stmt)?;
-    let changes = changes(alloc, world.greatest, stmt, &rows)?;
-    write(alloc, world, k, stmt, &rows, changes)
+    open_write(alloc, schema, world, k, stmt)
+}
+
+fn done(alloc: Global, what: What) -> Result<Ruled, Memory>
+    ensures reply { IfOk result (λ r. r.reply ≡ Reply.Done) }
+    ensures makes { IfOk result (λ r. r.makes.items ≡ what ∷ []) }
+{
+    let mut makes = Vec::new(alloc);
+    makes.push(what)?;
+    let reply = Reply::Done;
+    Ok(Ruled { reply, makes })
+}
+
+fn begin_ruling(
+    alloc: Global,
+    world: &World,
+    count: usize,
+    k: u8,
+    read_only: bool,
+) -> Result<Ruled, Memory>
+    requires running { length world.now.running.items ≡ 256 }
+    requires pinned { length world.now.pinned.items ≡ 256 }
+    ensures rules { IfOk result (λ r. begin_in (flag_of world.now.running.items k || flag_of world.now.pinned.items k) count (if read_only then What.Pin else What.Begin) ≡ makes r.reply r.makes.items) }
+    ensures kind { IfOk result (λ r. is_ruled r.reply ≡ true) }
+    ensures entries { IfOk result (λ r. list_all is_built_what r.makes.items ≡ true) }
+{
+    if world.is_running(k) || world.is_pinned(k) {
+        return Ok(refused(alloc, Refusal::AlreadyOpen));
+    }
+    if count > LAST_LENGTH {
+        return Ok(refused(alloc, Refusal::LogFull));
+    }
+    let what = if read_only { What::Pin } else { What::Begin };
+    done(alloc, what)
+}
+
+fn end_ruling(alloc: Global, world: &World, k: u8, keeps: bool) -> Result<Ruled, Memory>
+    requires running { length world.now.running.items ≡ 256 }
+    requires pinned { length world.now.pinned.items ≡ 256 }
+    ensures rules { IfOk result (λ r. end_in (flag_of world.now.pinned.items k) (flag_of world.now.running.items k) (if keeps then What.Commit else What.Rollback) ≡ makes r.reply r.makes.items) }
+    ensures kind { IfOk result (λ r. is_ruled r.reply ≡ true) }
+    ensures entries { IfOk result (λ r. list_all is_built_what r.makes.items ≡ true) }
+{
+    if world.is_pinned(k) {
+        return done(alloc, What::Unpin);
+    }
+    if !world.is_running(k) {
+        return Ok(refused(alloc, Refusal::NoTransaction));
+    }
+    let what = if keeps { What::Commit } else { What::Rollback };
+    done(alloc, what)
+}
+
+/// The rows that match among those that the session sees: at a pin the content alone.
+fn seen(alloc: Global, world: &World, k: u8, pred: &Condition) -> Result<Vec<(u64, Row)>, Memory>
+    requires actors { length world.now.writes.items ≡ 256 }
+    requires pinned { length world.now.pinned.items ≡ 256 }
+    ensures { IfOk result (λ v. v.items ≡ kept pred.now (seen_in (flag_of world.now.pinned.items k) world.now.rows.entries world.now.writes.items k)) }
+{
+    if world.is_pinned(k) {
+        return kept_rows(alloc, &world.rows, pred);
+    }
+    matching(alloc, world, k, pred)
 }
 
 #[tactic(auto, using(crate::proofs::Worlds::answer_kept, crate::proofs::Rising::rising_kept))]
 fn read(alloc: Global, world: &World, k: u8, select: &Select) -> Result<Ruled, Memory>
     requires actors { length world.now.writes.items ≡ 256 }
-    requires rising { rises_above 0 (view_in world.now.rows.entries world.now.writes.items k) ≡ true }
-    ensures { IfOk result (λ r. (r.reply ≡ Reply.Rows (answer select.now (view_in world.now.rows.entries world.now.writes.items k))) × (r.changes.items ≡ [])) }
+    requires pinned { length world.now.pinned.items ≡ 256 }
+    requires rising { rises_above 0 (seen_in (flag_of world.now.pinned.items k) world.now.rows.entries world.now.writes.items k) ≡ true }
+    ensures rules { IfOk result (λ r. says (Reply.Rows (answer select.now (seen_in (flag_of world.now.pinned.items k) world.now.rows.entries world.now.writes.items k))) ≡ makes r.reply r.makes.items) }
+    ensures kind { IfOk result (λ r. is_ruled r.reply ≡ true) }
+    ensures entries { IfOk result (λ r. list_all is_built_what r.makes.items ≡ true) }
 {
-    let rows = matching(alloc, world, k, &select.pred)?;
+    let rows = seen(alloc, world, k, &select.pred)?;
     let cells = answer(alloc, select, &rows)?;
     Ok(says(alloc, Reply::Rows(cells)))
 }
 
-/// What a session's statement answers after a history of this length, and the changes that are then written and committed.
+/// What a session's statement answers after a history of this length, and the entries that it then makes. At a pin the history is to end there.
 /// The `Err` is want of memory; it also comes where an inserted row would have a number past 64 bits.
 pub(crate) fn verdict(
     alloc: Global,
+    schema: &Schema,
     world: &World,
     count: usize,
     k: u8,
     stmt: &Stmt,
 ) -> Result<Ruled, Memory>
-    requires actors { length world.now.writes.items ≡ 256 }
-    requires rising { rises_above 0 (view_in world.now.rows.entries world.now.writes.items k) ≡ true }
+    requires kept { IsKept schema.now world.now }
+    requires rising { rises_above 0 (seen_in (flag_of world.now.pinned.items k) world.now.rows.entries world.now.writes.items k) ≡ true }
     requires built { is_built_stmt stmt.now ≡ true }
-    ensures rules { IfOk result (λ r. (schema : Schema) (H : History) → IsWorld world.now.rows.entries world.now.writes.items world.now.greatest H → are_built H ≡ true → schema.uniques ≡ [] → count ≡ length H → verdict schema H k stmt.now ≡ ruled r.reply r.changes.items) }
+    ensures rules { IfOk result (λ r. (H : History) → Knows schema.now world.now H → are_built H ≡ true → IsAtPin H k stmt.now → count ≡ length H → verdict schema.now H k stmt.now ≡ makes r.reply r.makes.items) }
     ensures kind { IfOk result (λ r. is_ruled r.reply ≡ true) }
+    ensures entries { IfOk result (λ r. list_all is_built_what r.makes.items ≡ true) }
 {
     match stmt {
         Stmt::Select(select) => read(alloc, world, k, select.get()),
-        _ => write_ruling(alloc, world, count, k, stmt),
+        Stmt::Begin => begin_ruling(alloc, world, count, k, false),
+        Stmt::BeginReadOnly => begin_ruling(alloc, world, count, k, true),
+        Stmt::Commit => end_ruling(alloc, world, k, true),
+        Stmt::Rollback => end_ruling(alloc, world, k, false),
+        _ => write_ruling(alloc, schema, world, count, k, stmt),
     }
 }

@@ -1,16 +1,17 @@
 //! The content after a history, with each actor's open writes.
-ghost use Rattle.std.specs.Prelude.{◌≡◌, ℕ, ◌<◌, ◌++◌, [], IfOk, OnOk, length, slice_set};
+ghost use Rattle.std.specs.Prelude.{◌≡◌, ℕ, ◌<◌, ◌++◌, [], IfOk, OnOk, false, length, slice_set};
 ghost use Rattle.s2_model.specs.History.{History, ◌▷◌, pending_after, greatest_in};
 ghost use Rattle.s2_model.specs.Table.{apply};
 ghost use Rattle.s2_model.specs.Answer.{kept};
 ghost use Rattle.s2_model.specs.Held.{sessions};
-ghost use Rattle.s2_legal.specs.World.{IsWorld, open_of, view_in, sees_in, holder_in};
+ghost use Rattle.s2_legal.specs.Knows.{IsKept, Knows};
+ghost use Rattle.s2_legal.specs.World.{open_of, flag_of, view_in, sees_in, holder_in};
 
 use crate::opens::OpenWrites;
 use crate::tables::{Rows, all_rows, apply_all, has_row, kept_rows};
 use s2_model::{Change, Condition, Entry, What};
 use s2_slow::{apply, kept, number_of, sessions};
-use s2_value::{Memory, Row};
+use s2_value::{Memory, Row, Schema};
 use std::alloc::Global;
 use std::collections::BTreeMap;
 use std::mem;
@@ -18,12 +19,14 @@ use std::mem;
 /// How many actors a number of eight bits tells apart.
 const ACTORS: usize = 256;
 
-/// The content, the open writes of each actor, and the greatest row number in any write.
+/// The content, the open writes of each actor, the greatest row number in any write, and of each actor whether it is in a transaction that writes and whether it reads at a pin.
 #[derive(Drop)]
-pub(crate) struct World {
+pub struct World {
     pub rows: Rows,
     pub writes: Vec<OpenWrites>,
     pub greatest: u64,
+    pub running: Vec<bool>,
+    pub pinned: Vec<bool>,
 }
 
 fn no_writes(alloc: Global) -> Result<Vec<OpenWrites>, Memory>
@@ -35,6 +38,17 @@ fn no_writes(alloc: Global) -> Result<Vec<OpenWrites>, Memory>
         writes.push(OpenWrites::new(alloc))?;
     }
     Ok(writes)
+}
+
+fn no_flags(alloc: Global) -> Result<Vec<bool>, Memory>
+    ensures actors { IfOk result (λ flags. length flags.items ≡ 256) }
+    ensures none { IfOk result (λ flags. (k : ℕ) → flag_of flags.items k ≡ false) }
+{
+    let mut flags = Vec::with_capacity(alloc, ACTORS)?;
+    for _i in 0..ACTORS {
+        flags.push(false)?;
+    }
+    Ok(flags)
 }
 
 fn greatest_in(changes: &[Change], was: u64) -> u64
@@ -51,14 +65,32 @@ fn greatest_in(changes: &[Change], was: u64) -> u64
 
 impl World {
     /// Before the first entry.
-    pub(crate) fn new(alloc: Global) -> Result<World, Memory>
-        ensures { IfOk result (λ w. IsWorld w.rows.entries w.writes.items w.greatest []) }
+    pub(crate) fn new(alloc: Global, schema: &Schema) -> Result<World, Memory>
+        ensures { IfOk result (λ w. Knows schema.now w []) }
     {
         Ok(World {
             rows: BTreeMap::new(alloc),
             writes: no_writes(alloc)?,
             greatest: 0,
+            running: no_flags(alloc)?,
+            pinned: no_flags(alloc)?,
         })
+    }
+
+    /// Whether the actor is in a transaction that writes.
+    pub(crate) fn is_running(&self, k: u8) -> bool
+        requires { length self.now.running.items ≡ 256 }
+        ensures { result ≡ flag_of self.now.running.items k }
+    {
+        self.running[usize::from(k)]
+    }
+
+    /// Whether the actor reads at a pin.
+    pub(crate) fn is_pinned(&self, k: u8) -> bool
+        requires { length self.now.pinned.items ≡ 256 }
+        ensures { result ≡ flag_of self.now.pinned.items k }
+    {
+        self.pinned[usize::from(k)]
     }
 
     fn write(&mut self, alloc: Global, k: usize, changes: &[Change]) -> Result<(), Memory>
@@ -66,6 +98,8 @@ impl World {
         ensures open_writes { OnOk result (self.new.writes.items ≡ slice_set self.old.writes.items k (open_of self.old.writes.items k ++ changes.now)) }
         ensures number { OnOk result (self.new.greatest ≡ greatest_in changes.now self.old.greatest) }
         ensures rows { OnOk result (self.new.rows.entries ≡ self.old.rows.entries) }
+        ensures running { OnOk result (self.new.running.items ≡ self.old.running.items) }
+        ensures pinned { OnOk result (self.new.pinned.items ≡ self.old.pinned.items) }
     {
         self.writes[k].extend(alloc, changes)?;
         self.greatest = greatest_in(changes, self.greatest);
@@ -77,22 +111,51 @@ impl World {
         ensures open_writes { OnOk result (self.new.writes.items ≡ slice_set self.old.writes.items k []) }
         ensures number { OnOk result (self.new.greatest ≡ self.old.greatest) }
         ensures rows { OnOk result (self.new.rows.entries ≡ apply self.old.rows.entries (open_of self.old.writes.items k)) }
+        ensures running { OnOk result (self.new.running.items ≡ self.old.running.items) }
+        ensures pinned { OnOk result (self.new.pinned.items ≡ self.old.pinned.items) }
     {
         let open = mem::replace(&mut self.writes[k], OpenWrites::new(alloc));
         apply_all(&mut self.rows, open.into_changes())
     }
 
-    /// After one entry more.
-    pub(crate) fn step(&mut self, alloc: Global, entry: &Entry) -> Result<(), Memory>
-        requires { length self.old.writes.items ≡ 256 }
-        ensures { OnOk result ((H : History) → IsWorld self.old.rows.entries self.old.writes.items self.old.greatest H → IsWorld self.new.rows.entries self.new.writes.items self.new.greatest (H ▷ entry.now)) }
+    fn forget(&mut self, alloc: Global, k: usize)
+        requires { k < length self.old.writes.items }
+        ensures open_writes { self.new.writes.items ≡ slice_set self.old.writes.items k [] }
+        ensures number { self.new.greatest ≡ self.old.greatest }
+        ensures rows { self.new.rows.entries ≡ self.old.rows.entries }
+        ensures running { self.new.running.items ≡ self.old.running.items }
+        ensures pinned { self.new.pinned.items ≡ self.old.pinned.items }
+    {
+        self.writes[k] = OpenWrites::new(alloc);
+    }
+
+    /// After one entry more. After want of memory the world is of no history.
+    pub(crate) fn step(
+        &mut self,
+        alloc: Global,
+        schema: &Schema,
+        entry: &Entry,
+    ) -> Result<(), Memory>
+        requires { IsKept schema.now self.old }
+        ensures { OnOk result ((H : History) → Knows schema.now self.old H → Knows schema.now self.new (H ▷ entry.now)) }
     {
         let k = usize::from(entry.actor);
         match &entry.what {
+            What::Begin => {
+                self.forget(alloc, k);
+                self.running[k] = true;
+            }
             What::Write(changes) => self.write(alloc, k, changes.as_slice())?,
-            What::Commit => self.commit(alloc, k)?,
-            What::Begin => self.writes[k] = OpenWrites::new(alloc),
-            What::Rollback => self.writes[k] = OpenWrites::new(alloc),
+            What::Commit => {
+                self.commit(alloc, k)?;
+                self.running[k] = false;
+            }
+            What::Rollback => {
+                self.forget(alloc, k);
+                self.running[k] = false;
+            }
+            What::Pin => self.pinned[k] = true,
+            What::Unpin => self.pinned[k] = false,
             _ => {}
         }
         Ok(())

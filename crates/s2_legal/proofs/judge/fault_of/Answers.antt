@@ -49,7 +49,7 @@ returns-in-Some c =
     let found : transcript_of k run.transcripts ≡ c.in-Some.t.now = ap (λ (ts : List Transcript). transcript_of k ts) (sym c.as_slice.ensures) ∙ c.in-Some.ensures in
     IfOk-weaker c.first_wrong.result _ _
     (λ o told. fault_told script run k c.in-Some.t.now c.as_slice-h.result.now c.as_slice-lines.result.now c.as_slice-in-Some.result.now o c.as_slice-h.ensures c.as_slice-lines.ensures
-    c.as_slice-in-Some.ensures found (told script.schema script.options (marks_of script.lines run.transcripts) c.requires.built.keyless)) c.first_wrong.ensures
+    c.as_slice-in-Some.ensures found (told script.options (marks_of script.lines run.transcripts))) c.first_wrong.ensures
 
 pub returns-in-None : goal.returns-in-None
 returns-in-None c =
@@ -60,4 +60,4 @@ returns-in-None c =
     let found : transcript_of k run.transcripts ≡ nothing = ap (λ (ts : List Transcript). transcript_of k ts) (sym c.as_slice.ensures) ∙ c.in-None.ensures in
     IfOk-weaker c.first_wrong-in-None.result _ _
     (λ o told. fault_told script run k nothing c.as_slice-h.result.now c.as_slice-lines.result.now [] o c.as_slice-h.ensures c.as_slice-lines.ensures refl found
-    (told script.schema script.options (marks_of script.lines run.transcripts) c.requires.built.keyless)) c.first_wrong-in-None.ensures
+    (told script.options (marks_of script.lines run.transcripts))) c.first_wrong-in-None.ensures

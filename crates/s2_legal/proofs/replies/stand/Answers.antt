@@ -1,35 +1,36 @@
-use Rattle.std.proofs.Common.{◌+◌, ◌<◌, length, get_or, arith}
+use Rattle.std.proofs.Common.{◌≡◌, ◌+◌, ◌<◌, ℕ, length, subst, arith}
 use Rattle.std.proofs.lemmas.Bool.{both_ways}
-use Rattle.std.proofs.lemmas.List.{get_or_default}
-use Rattle.s2_legal.proofs.Standing.{stand_here, stand_parts, stand_short}
+use Rattle.s2_legal.proofs.Standing.{StandsTo, stand_none, stand_more, stand_all, stand_part, stand_short}
 use Rattle.s2_legal.proofs.replies.stand.Goals as goal
-use Rattle.s2_legal.proofs.replies.stand.Goals.{else-is_write_of-via-then-is_write_of+else-is_commit_of, else-is_write_of-via-else-is_write_of}
 
-pub returns-then-h-r-lt2-clause-end : goal.returns-then-h-r-lt2-clause-end
-returns-then-h-r-lt2-clause-end c =
-    let some : 0 < length c.args.changes.now = omega arith in
-    stand_short c.args.h.now c.args.r c.args.k c.args.changes.now some c.requires c.if-h-r-lt2.true
+pub returns-then-h-r-clause-end : goal.returns-then-h-r-clause-end
+returns-then-h-r-clause-end c = stand_short c.args.h.now c.args.r c.args.k c.args.makes.now c.requires.place c.if-h-r.true
 
-pub returns-then-is_commit_of-clause-end : goal.returns-then-is_commit_of-clause-end
-returns-then-is_commit_of-clause-end c =
-    let some : 0 < length c.args.changes.now = omega arith in
-    let within : c.args.r + 1 < length c.args.h.now = omega arith in
-    stand_here c.args.h.now c.args.r c.args.k c.args.changes.now c.index-h-r.result c.index-h-r-then-is_write_of.result some within c.index-h-r.is c.index-h-r-then-is_write_of.is
-    (c.is_write_of.ensures.0 c.if-is_write_of.true) (c.is_commit_of.ensures.0 c.if-is_commit_of.true)
+pub loop-i-init : goal.loop-i-init
+loop-i-init c = record {
+  place = omega arith;
+  so = stand_none c.args.h.now c.args.r c.args.k c.args.makes.now;
+}
 
-pub returns-else-is_write_of-clause-end : goal.returns-else-is_write_of-clause-end
-returns-else-is_write_of-clause-end c =
-    let h = c.args.h.now in
-    let r = c.args.r in
-    let e1 = c.index-h-r.result in
-    let some : 0 < length c.args.changes.now = omega arith in
-    let within : r + 1 < length h = omega arith in
-    λ e.
-    elim c.else-is_write_of.branch [
-      | else-is_write_of-via-then-is_write_of+else-is_commit_of w ↦
-          let parts = stand_parts h r c.args.k c.args.changes.now e1 w.index-h-r-then-is_write_of.result some within c.index-h-r.is w.index-h-r-then-is_write_of.is e in
-          both_ways w.is_commit_of.result w.if-is_commit_of.false (w.is_commit_of.ensures.1 parts.0)
-      | else-is_write_of-via-else-is_write_of w ↦
-          let parts = stand_parts h r c.args.k c.args.changes.now e1 (get_or h (r + 1) e1) some within c.index-h-r.is (get_or_default h (r + 1) e1 (get_or h (r + 1) e1) within) e in
-          both_ways c.is_write_of.result w.if-is_write_of.false (c.is_write_of.ensures.1 parts.1)
-    ]
+pub returns-then-not-is_entry_of-clause-end : goal.returns-then-not-is_entry_of-clause-end
+returns-then-not-is_entry_of-clause-end c = λ all.
+    let lt : c.loop-i.i < length c.args.makes.now = omega arith in
+    both_ways c.is_entry_of.result c.if-not-is_entry_of.true
+    (c.is_entry_of.ensures.1 (stand_part c.args.h.now c.args.r c.args.k c.loop-i.i c.args.makes.now c.index-h-r.result c.index-makes-i.result
+    c.loop-i.invariant.place lt c.index-h-r.is c.index-makes-i.is c.loop-i.invariant.so all))
+
+pub loop-i-preserved : goal.loop-i-preserved
+loop-i-preserved c =
+    let lt : c.loop-i.i < length c.args.makes.now = omega arith in
+    let within : c.args.r + c.loop-i.i < length c.args.h.now = omega (arith, c.loop-i.invariant.place) in
+    record {
+      place = c.loop-i.invariant.place;
+      so = stand_more c.args.h.now c.args.r c.args.k c.loop-i.i c.args.makes.now c.index-h-r.result c.index-makes-i.result within lt c.index-h-r.is c.index-makes-i.is
+          (c.is_entry_of.ensures.0 c.if-not-is_entry_of.false) c.loop-i.invariant.so;
+    }
+
+pub returns-clause-end : goal.returns-clause-end
+returns-clause-end c =
+    let at : c.loop-i.i ≡ length c.args.makes.now = omega arith in
+    stand_all c.args.h.now c.args.r c.args.k c.args.makes.now c.loop-i.invariant.place
+    (subst (λ (n : ℕ). StandsTo c.args.h.now c.args.r c.args.k c.args.makes.now n) at c.loop-i.invariant.so)

@@ -1,7 +1,7 @@
 use Rattle.std.proofs.Common.{◌≡◌, ◌++◌, take}
 use Rattle.std.specs.Ordering.{nat_cmp}
 use Rattle.std.specs.BTreeMap.{get}
-use Rattle.s2_legal.specs.World.{KnowsLast}
+use Rattle.s2_legal.specs.Lasts.{KnowsLast}
 use Rattle.s2_legal.proofs.opens.OpenWrites.extended.Given as goal
 
 abbrev pub invariant-loop-change : goal.invariant-loop-change
