@@ -114,7 +114,7 @@ ends_err all known d next (Err e) p h = subst (λ (y : Stop). IsBad (Runs 1 no_l
 
 built_of : (t : Option Table) (script : Script) → TablesGo t (Some (parts_of script.schema)) script.lines → IsBuiltScript script × IsTrue (is_some t)
 built_of None script g = absurd g
-built_of (Some t) script g = (record { uniques = g.1; lines = g.2 }, refl)
+built_of (Some t) script g = (record { lines = g.1 }, refl)
 
 pub whole : (known : Known) (d : Draft) (script : Script) → Goes known d → d ≡ draft_of script → IsBuiltScript script × IsTrue (is_some known.table)
 whole known d script g e = built_of known.table script (subst (λ (x : Draft). Goes known x) e g)

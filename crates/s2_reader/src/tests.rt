@@ -5,14 +5,15 @@ use std::alloc::Global;
 use std::test::Fail;
 
 const SCRIPT: &str =
-    "\n-- first\nOption fanout 8;\ncreate table t (a INT, b text, KEY (a), sort key (b, a))\r\n1:\tinsert into t values (1, 'it''s'), (-2, '')\n1: UPDATE t SET a = a + -1 WHERE a != 1 AND NOT (b = 'x' OR a IN (1, 2))\n1: DELETE FROM t WHERE a <= 3;\n1: SELECT b, a FROM t ORDER BY a DESC, b LIMIT 3\n1: SELECT COUNT(*), SUM(a) FROM t";
+    "\n-- first\nOption fanout 8;\ncreate table t (a INT, b text, KEY (a), sort key (b, a), unique key(b,a), UNIQUE KEY (a))\r\n1:\tinsert into t values (1, 'it''s'), (-2, '')\n1: UPDATE t SET a = a + -1 WHERE a != 1 AND NOT (b = 'x' OR a IN (1, 2))\n1: DELETE FROM t WHERE a <= 3;\n1: SELECT b, a FROM t ORDER BY a DESC, b LIMIT 3\n1: SELECT COUNT(*), SUM(a) FROM t\n16: begin\n2: BEGIN READ ONLY;\n16: ROLLBACK\n2 : Commit";
 
 #[test]
 fn a_script(rt: HostRuntime) -> Result<(), Fail> {
     let script = read_script(rt.alloc(), SCRIPT.as_bytes())?;
-    assert_eq!(rt; script.lines.len(), 5);
+    assert_eq!(rt; script.lines.len(), 9);
     assert_eq!(rt; script.options.fanout, 8);
     assert_eq!(rt; script.schema.cols.len(), 2);
+    assert_eq!(rt; script.schema.uniques.len(), 2);
     assert_eq!(rt; script.schema.indexes.len(), 1);
     assert_eq!(rt; script.schema.sort.len(), 2);
     Ok(())
@@ -83,8 +84,8 @@ const BAD: [(&[u8], u64, ScriptKind); 13] = [
         ScriptKind::JobOrder,
     ),
     (
-        b"CREATE TABLE t (a INT)\n2: DELETE FROM t",
-        2,
+        b"CREATE TABLE t (a INT, UNIQUE KEY (a))\n2: BEGIN\n2: FLUSH",
+        3,
         ScriptKind::NotBuilt,
     ),
 ];
