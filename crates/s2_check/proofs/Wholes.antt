@@ -59,8 +59,12 @@ both : (a b : Bool) → a ≡ true → b ≡ true → (a && b) ≡ true
 both a b e f = rw e (rw f refl)
 
 what_built : (w : What) → IsWhat w → is_built_what w ≡ true
+what_built what.Begin h = refl
 what_built (what.Write changes) h = refl
 what_built what.Commit h = refl
+what_built what.Rollback h = refl
+what_built what.Pin h = refl
+what_built what.Unpin h = refl
 what_built _ h = absurd h
 
 later_lines : (xs ys : List OutputLine) → AllByRecursion IsLine (xs ++ ys) → AllByRecursion IsLine ys
@@ -76,6 +80,10 @@ stmt_built cols (stmt.Insert rows) h = refl
 stmt_built cols (stmt.Update sets pred) h = refl
 stmt_built cols (stmt.Delete pred) h = refl
 stmt_built cols (stmt.Select select) h = refl
+stmt_built cols stmt.Begin h = refl
+stmt_built cols stmt.BeginReadOnly h = refl
+stmt_built cols stmt.Commit h = refl
+stmt_built cols stmt.Rollback h = refl
 stmt_built cols _ h = absurd h
 
 stmts_built : (cols : List Col) (lines : List Line) → LinesSuit cols lines → list_all (λ l. is_built_stmt l.stmt) lines ≡ true
@@ -86,5 +94,4 @@ pub built_output : (script : Script) (run : Outcome) → IsBuiltScript script �
 built_output script run b h = record {
   entries = entries_built run.history (line.End ∷ []) (later_lines (flat_map transcript_lines run.transcripts) (history_lines run.history) h.lines).1;
   stmts = stmts_built script.schema.cols script.lines b.lines;
-  keyless = b.uniques;
 }

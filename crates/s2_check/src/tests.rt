@@ -237,6 +237,401 @@ const SUM_CASES: &[Case] = &[
     (&[("PUT 2 (1)", "PUT 1 (1)")], Reply(1, 3)),
 ];
 
+/// A row with a unique key value is deleted in a transaction while another session inserts the value.
+const HELD: &str = "CREATE TABLE t (id INT, UNIQUE KEY (id));
+1: INSERT INTO t VALUES (1);
+1: BEGIN;
+1: DELETE FROM t WHERE id = 1;
+2: INSERT INTO t VALUES (1);
+1: COMMIT;
+2: INSERT INTO t VALUES (1);
+==OUTPUT==
+SESSION 1 4 0
+0 0 OK 1
+2 0 OK
+3 0 OK 1
+4 0 OK
+SESSION 2 2 0
+4 0 ERROR 8 LockedValue 1 2 1
+5 0 OK 1
+HISTORY 7
+1 WRITE PUT 1 (1)
+1 COMMIT
+1 BEGIN
+1 WRITE DROP 1
+1 COMMIT
+2 WRITE PUT 2 (1)
+2 COMMIT
+END
+";
+
+const HELD_CASES: &[Case] = &[
+    (&[], Legal),
+    // The key, the row and the holder of a value that another holds.
+    (&[("LockedValue 1 2 1", "LockedValue 2 2 1")], Reply(2, 1)),
+    (&[("LockedValue 1 2 1", "LockedValue 1 1 1")], Reply(2, 1)),
+    (&[("LockedValue 1 2 1", "LockedValue 1 2 2")], Reply(2, 1)),
+    (&[("8 LockedValue 1 2 1", "9 Duplicate 1 2")], Reply(2, 1)),
+    (&[("8 LockedValue 1 2 1", "6 Locked 1 1")], Reply(2, 1)),
+    (
+        &[("4 0 ERROR 8 LockedValue 1 2 1", "4 0 ERROR 13 Memory")],
+        Legal,
+    ),
+    // The same statement before the value was held, and after that.
+    (&[("4 0 ERROR 8", "3 0 ERROR 8")], Reply(2, 1)),
+    (
+        &[("4 0 ERROR 8 LockedValue 1 2 1", "3 0 ERROR 9 Duplicate 1 2")],
+        Legal,
+    ),
+    (&[("4 0 ERROR 8", "5 0 ERROR 8")], Reply(2, 1)),
+    // The transaction rolled back.
+    (
+        &[
+            ("1: COMMIT", "1: ROLLBACK"),
+            ("1 WRITE DROP 1\n1 COMMIT", "1 WRITE DROP 1\n1 ROLLBACK"),
+            ("HISTORY 7", "HISTORY 5"),
+            ("2 WRITE PUT 2 (1)\n2 COMMIT\n", ""),
+            ("5 0 OK 1", "5 0 ERROR 9 Duplicate 1 2"),
+        ],
+        Legal,
+    ),
+    (
+        &[
+            ("1: COMMIT", "1: ROLLBACK"),
+            ("1 WRITE DROP 1\n1 COMMIT", "1 WRITE DROP 1\n1 ROLLBACK"),
+            ("HISTORY 7", "HISTORY 5"),
+            ("2 WRITE PUT 2 (1)\n2 COMMIT\n", ""),
+            ("5 0 OK 1", "5 0 ERROR 9 Duplicate 1 1"),
+        ],
+        Reply(2, 2),
+    ),
+    (
+        &[
+            ("1: COMMIT", "1: ROLLBACK"),
+            ("1 WRITE DROP 1\n1 COMMIT", "1 WRITE DROP 1\n1 ROLLBACK"),
+            ("HISTORY 7", "HISTORY 5"),
+            ("2 WRITE PUT 2 (1)\n2 COMMIT\n", ""),
+            ("5 0 OK 1", "5 0 ERROR 9 Duplicate 2 2"),
+        ],
+        Reply(2, 2),
+    ),
+    // What opens and ends a transaction: no count, no refusal, and no want of memory at its end.
+    (&[("2 0 OK", "2 0 OK 0")], Reply(1, 2)),
+    (&[("3 0 OK 1", "3 0 OK")], Reply(1, 3)),
+    (&[("2 0 OK", "2 0 ERROR 2 AlreadyOpen")], Reply(1, 2)),
+    (&[("2 0 OK", "2 0 ERROR 13 Memory")], Reply(1, 3)),
+    (&[("4 0 OK", "4 0 ERROR 13 Memory")], Reply(1, 4)),
+    (&[("4 0 OK", "4 0 ERROR 1 NoTransaction")], Reply(1, 4)),
+    // Entries that don't fit, and entries that no reply made.
+    (
+        &[
+            ("HISTORY 7", "HISTORY 8"),
+            ("1 WRITE DROP 1\n", "1 WRITE DROP 1\n2 WRITE PUT 1 (1)\n"),
+        ],
+        Entry(5),
+    ),
+    (
+        &[
+            ("HISTORY 7", "HISTORY 8"),
+            ("1 WRITE DROP 1\n", "1 BEGIN\n1 WRITE DROP 1\n"),
+        ],
+        Entry(4),
+    ),
+    (
+        &[
+            ("HISTORY 7", "HISTORY 8"),
+            ("1 WRITE DROP 1\n", "1 PIN\n1 WRITE DROP 1\n"),
+        ],
+        Entry(4),
+    ),
+    (
+        &[
+            ("HISTORY 7", "HISTORY 8"),
+            (
+                "1 WRITE DROP 1\n1 COMMIT",
+                "1 WRITE DROP 1\n1 COMMIT\n1 COMMIT",
+            ),
+        ],
+        Entry(6),
+    ),
+    (&[("1 BEGIN", "17 BEGIN")], Entry(3)),
+    (&[("1 BEGIN", "0 BEGIN")], Entry(3)),
+    (&[("1 BEGIN", "2 BEGIN")], Reply(1, 2)),
+    (
+        &[("HISTORY 7", "HISTORY 6"), ("2 COMMIT\n", "")],
+        Reply(2, 2),
+    ),
+];
+
+/// A unique key whose values move on all at once.
+const SHIFT: &str = "CREATE TABLE t (id INT, UNIQUE KEY (id));
+1: INSERT INTO t VALUES (1), (2), (3);
+1: UPDATE t SET id = id + 1;
+1: INSERT INTO t VALUES (9223372036854775807);
+1: UPDATE t SET id = id + 1;
+1: SELECT * FROM t;
+==OUTPUT==
+SESSION 1 5 0
+0 0 OK 3
+2 0 OK 3
+4 0 OK 1
+6 0 ERROR 7 OutOfRange 4
+6 0 ROWS 4
+(2)
+(3)
+(4)
+(9223372036854775807)
+HISTORY 6
+1 WRITE PUT 1 (1), PUT 2 (2), PUT 3 (3)
+1 COMMIT
+1 WRITE PUT 1 (2), PUT 2 (3), PUT 3 (4)
+1 COMMIT
+1 WRITE PUT 4 (9223372036854775807)
+1 COMMIT
+END
+";
+
+const SHIFT_CASES: &[Case] = &[
+    (&[], Legal),
+    (&[("2 0 OK 3", "2 0 ERROR 9 Duplicate 1 1")], Reply(1, 2)),
+    (
+        &[("PUT 2 (3), PUT 3 (4)", "PUT 2 (4), PUT 3 (3)")],
+        Reply(1, 2),
+    ),
+    (
+        &[("VALUES (9223372036854775807)", "VALUES (4)")],
+        Reply(1, 3),
+    ),
+    (&[("4 0 OK 1", "4 0 ERROR 9 Duplicate 1 4")], Reply(1, 3)),
+    (&[("OutOfRange 4", "OutOfRange 1")], Reply(1, 4)),
+    (&[("7 OutOfRange 4", "9 Duplicate 1 1")], Reply(1, 4)),
+    (&[("(2)\n(3)\n(4)", "(3)\n(2)\n(4)")], Reply(1, 5)),
+];
+
+/// What is refused outside a transaction, in one, and in one that only reads.
+const REFUSALS: &str = "CREATE TABLE t (id INT);
+1: COMMIT;
+1: BEGIN;
+1: BEGIN;
+1: ROLLBACK;
+1: BEGIN READ ONLY;
+1: INSERT INTO t VALUES (1);
+1: COMMIT;
+==OUTPUT==
+SESSION 1 7 0
+0 0 ERROR 1 NoTransaction
+0 0 OK
+1 0 ERROR 2 AlreadyOpen
+1 0 OK
+2 0 OK
+3 0 ERROR 3 ReadOnly
+3 0 OK
+HISTORY 4
+1 BEGIN
+1 ROLLBACK
+1 PIN
+1 UNPIN
+END
+";
+
+const REFUSAL_CASES: &[Case] = &[
+    (&[], Legal),
+    // Refusals that don't apply, and such as do and aren't given.
+    (&[("0 0 ERROR 1 NoTransaction", "0 0 OK")], Reply(1, 1)),
+    (&[("1 NoTransaction", "13 Memory")], Reply(1, 1)),
+    (&[("1 0 ERROR 2 AlreadyOpen", "1 0 OK")], Reply(1, 3)),
+    (&[("2 AlreadyOpen", "4 LogFull")], Reply(1, 3)),
+    (&[("2 AlreadyOpen", "13 Memory")], Legal),
+    (&[("1 0 OK", "1 0 ERROR 13 Memory")], Reply(1, 4)),
+    (&[("3 ReadOnly", "5 TooManyRows")], Reply(1, 6)),
+    (&[("3 ReadOnly", "13 Memory")], Legal),
+    (&[("3 0 ERROR 3 ReadOnly", "3 0 OK 1")], Reply(1, 6)),
+    // Timestamps: that of the pin, and of the end.
+    (&[("3 0 ERROR 3", "4 0 ERROR 3")], Reply(1, 6)),
+    (&[("3 0 ERROR 3", "2 0 ERROR 3")], Reply(1, 6)),
+    (&[("3 0 OK", "4 0 OK")], Reply(1, 7)),
+    (&[("3 0 OK", "2 0 OK")], Reply(1, 7)),
+    // Entries left out, doubled and exchanged.
+    (
+        &[("HISTORY 4", "HISTORY 3"), ("1 ROLLBACK\n", "")],
+        Entry(2),
+    ),
+    (&[("1 ROLLBACK", "1 COMMIT")], Reply(1, 4)),
+    (
+        &[("HISTORY 4", "HISTORY 3"), ("1 UNPIN\n", "")],
+        Reply(1, 7),
+    ),
+    (&[("1 UNPIN", "1 ROLLBACK")], Entry(4)),
+    (&[("1 PIN", "1 BEGIN")], Entry(4)),
+    (
+        &[("HISTORY 4", "HISTORY 5"), ("1 PIN\n", "1 PIN\n1 PIN\n")],
+        Entry(4),
+    ),
+    (
+        &[
+            ("HISTORY 4", "HISTORY 5"),
+            ("1 PIN\n", "1 PIN\n1 WRITE PUT 1 (1)\n"),
+        ],
+        Entry(4),
+    ),
+    (
+        &[
+            ("HISTORY 4", "HISTORY 5"),
+            ("1 UNPIN\n", "1 UNPIN\n17 PIN\n"),
+        ],
+        Entry(5),
+    ),
+    (
+        &[
+            ("HISTORY 4", "HISTORY 5"),
+            ("1 UNPIN\n", "1 UNPIN\n2 BEGIN\n"),
+        ],
+        Reply(2, 1),
+    ),
+    (
+        &[
+            ("HISTORY 4", "HISTORY 5"),
+            ("1 UNPIN\n", "1 UNPIN\n1 BEGIN\n"),
+        ],
+        Reply(1, 8),
+    ),
+];
+
+/// A transaction that only reads, while another session deletes all rows.
+const PINNED: &str = "CREATE TABLE t (id INT);
+1: INSERT INTO t VALUES (1), (2);
+2: BEGIN READ ONLY;
+1: DELETE FROM t;
+2: SELECT * FROM t;
+2: COMMIT;
+2: SELECT COUNT(*) FROM t;
+==OUTPUT==
+SESSION 1 2 0
+0 0 OK 2
+3 0 OK 2
+SESSION 2 4 0
+2 0 OK
+3 0 ROWS 2
+(1)
+(2)
+5 0 OK
+6 0 ROWS 1
+(0)
+HISTORY 6
+1 WRITE PUT 1 (1), PUT 2 (2)
+1 COMMIT
+2 PIN
+1 WRITE DROP 1, DROP 2
+1 COMMIT
+2 UNPIN
+END
+";
+
+const PINNED_CASES: &[Case] = &[
+    (&[], Legal),
+    // The newest rows, and a timestamp off the pin.
+    (&[("3 0 ROWS 2\n(1)\n(2)", "3 0 ROWS 0")], Reply(2, 2)),
+    (&[("3 0 ROWS 2\n(1)\n(2)", "5 0 ROWS 0")], Reply(2, 2)),
+    (&[("3 0 ROWS 2", "5 0 ROWS 2")], Reply(2, 2)),
+    (&[("3 0 ROWS 2", "2 0 ROWS 2")], Reply(2, 2)),
+    (&[("3 0 ROWS 2\n(1)\n(2)", "3 0 ERROR 13 Memory")], Legal),
+    (
+        &[("3 0 ROWS 2\n(1)\n(2)", "5 0 ERROR 13 Memory")],
+        Reply(2, 2),
+    ),
+    // The end of the pin, and what is read after it.
+    (&[("5 0 OK", "3 0 OK")], Reply(2, 3)),
+    (&[("5 0 OK", "5 0 ERROR 1 NoTransaction")], Reply(2, 3)),
+    (&[("5 0 OK", "5 0 ERROR 13 Memory")], Reply(2, 3)),
+    (&[("6 0 ROWS 1\n(0)", "6 0 ROWS 1\n(2)")], Reply(2, 4)),
+    (&[("6 0 ROWS 1\n(0)", "3 0 ROWS 1\n(2)")], Reply(2, 4)),
+    // Other statements, and entries that don't fit.
+    (&[("2: BEGIN READ ONLY", "2: BEGIN")], Reply(2, 1)),
+    (
+        &[("2 PIN", "2 BEGIN"), ("2 UNPIN", "2 COMMIT")],
+        Reply(2, 1),
+    ),
+    (&[("2: COMMIT", "2: ROLLBACK")], Legal),
+    (&[("2 UNPIN", "2 COMMIT")], Entry(6)),
+    (
+        &[
+            ("HISTORY 6", "HISTORY 7"),
+            ("2 UNPIN", "2 WRITE PUT 3 (3)\n2 UNPIN"),
+        ],
+        Entry(6),
+    ),
+];
+
+/// A row that is changed in a transaction, while another session changes and reads it.
+const LOCKED: &str = "CREATE TABLE t (id INT, v INT);
+1: INSERT INTO t VALUES (1, 10);
+1: BEGIN;
+1: UPDATE t SET v = 11;
+2: UPDATE t SET v = 12;
+2: SELECT v FROM t;
+1: SELECT v FROM t;
+1: ROLLBACK;
+2: UPDATE t SET v = v + 2;
+==OUTPUT==
+SESSION 1 5 0
+0 0 OK 1
+2 0 OK
+3 0 OK 1
+4 0 ROWS 1
+(11)
+4 0 OK
+SESSION 2 3 0
+4 0 ERROR 6 Locked 1 1
+4 0 ROWS 1
+(10)
+5 0 OK 1
+HISTORY 7
+1 WRITE PUT 1 (1, 10)
+1 COMMIT
+1 BEGIN
+1 WRITE PUT 1 (1, 11)
+1 ROLLBACK
+2 WRITE PUT 1 (1, 12)
+2 COMMIT
+END
+";
+
+const LOCKED_CASES: &[Case] = &[
+    (&[], Legal),
+    // The row that is held and its holder.
+    (&[("Locked 1 1", "Locked 1 2")], Reply(2, 1)),
+    (&[("Locked 1 1", "Locked 2 1")], Reply(2, 1)),
+    (&[("4 0 ERROR 6", "3 0 ERROR 6")], Reply(2, 1)),
+    (&[("4 0 ERROR 6", "5 0 ERROR 6")], Reply(2, 1)),
+    (&[("4 0 ERROR 6 Locked 1 1", "4 0 OK 1")], Reply(2, 1)),
+    (&[("6 Locked 1 1", "3 ReadOnly")], Reply(2, 1)),
+    (&[("6 Locked 1 1", "13 Memory")], Legal),
+    // Each session sees its own open writes alone.
+    (&[("(11)", "(10)")], Reply(1, 4)),
+    (&[("(10)", "(11)")], Reply(2, 2)),
+    (&[("4 0 ROWS 1\n(11)", "3 0 ROWS 1\n(11)")], Reply(1, 4)),
+    (&[("4 0 ROWS 1\n(11)", "5 0 ROWS 1\n(11)")], Reply(1, 4)),
+    // The end of the transaction left out, and another one.
+    (
+        &[("HISTORY 7", "HISTORY 6"), ("1 ROLLBACK\n", "")],
+        Entry(5),
+    ),
+    (&[("1 ROLLBACK", "1 COMMIT")], Reply(1, 5)),
+    (
+        &[("1: ROLLBACK", "1: COMMIT"), ("1 ROLLBACK", "1 COMMIT")],
+        Reply(2, 3),
+    ),
+    (
+        &[
+            ("1: ROLLBACK", "1: COMMIT"),
+            ("1 ROLLBACK", "1 COMMIT"),
+            ("PUT 1 (1, 12)", "PUT 1 (1, 13)"),
+        ],
+        Legal,
+    ),
+    (&[("4 0 OK", "4 0 ERROR 13 Memory")], Reply(1, 5)),
+];
+
 /// The input with the text put in place of the other, which is to stand in it once.
 fn edited(alloc: Global, input: &str, edit: Edit) -> Result<String, Fail> {
     let Some((front, rest)) = input.split_once(edit.0) else {
@@ -259,7 +654,16 @@ fn checked(alloc: Global, input: &str, edits: &[Edit]) -> Result<Checked, Fail> 
 #[test]
 fn edited_outputs_are_judged(rt: HostRuntime) -> Result<(), Fail> {
     let alloc = rt.alloc();
-    for (input, cases) in [(ROWS, ROW_CASES), (SUMS, SUM_CASES)] {
+    let inputs = [
+        (ROWS, ROW_CASES),
+        (SUMS, SUM_CASES),
+        (HELD, HELD_CASES),
+        (SHIFT, SHIFT_CASES),
+        (REFUSALS, REFUSAL_CASES),
+        (PINNED, PINNED_CASES),
+        (LOCKED, LOCKED_CASES),
+    ];
+    for (input, cases) in inputs {
         for (edits, answer) in cases {
             assert_eq!(rt; checked(alloc, input, edits)?, *answer, "{:?}", edits);
         }
