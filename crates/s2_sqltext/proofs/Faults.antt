@@ -1,5 +1,5 @@
 -- A statement made plain has no fault that it didn't have.
-use Rattle.std.proofs.Common.{◌≡◌, ℕ, Bool, true, false, List, [], ◌∷◌, ◌++◌, Option, Some, None, map, nat_lt, not, ◌||◌, ◌&&◌, ◌==◌, if◌then◌else◌, is_none, refl, sym, ap, ◌∙◌}
+use Rattle.std.proofs.Common.{◌≡◌, ℕ, Bool, true, false, List, [], ◌∷◌, ◌++◌, Option, Some, None, map, nat_lt, not, ◌||◌, ◌&&◌, if◌then◌else◌, is_none, refl, sym, ap, ◌∙◌}
 use Rattle.std.specs.List.{list_any, flat_map}
 use Rattle.s2_token.specs.declared.types.Literal.{Literal}
 use Rattle.s2_pred.specs.Trees.{Tree}
@@ -267,5 +267,5 @@ still_faultless known after w k s table h small built none =
       repeated = repeated_stmt w k s ∙ f.repeated;
       type' = ap (λ (t : Option Table). is_wrong_in t (plain_stmt w s)) table ∙ wrong_stmt w known.table s h ∙ f.type';
       job = no_job (job_of after.jobs k) (plain_stmt w s) (built_plain w s ∙ built);
-      built = ap (λ (b : Bool). not (k == 1 && b)) (built_plain w s) ∙ f.built;
+      built = ap not (built_plain w s) ∙ f.built;
     })

@@ -199,11 +199,21 @@ aggregated table cols aggregates wheres x e =
     along table cols (stmt.Aggregate aggregates table wheres) x (made.Select (select_of (items.Aggs a.is) w.is [] None)) w.gives
     (record { pred = w.is; was = w.was; line = ap (λ xs. stmt.Aggregate xs table (where_line cols w.is)) (aggs_back cols aggregates a.is a.was); written = λ h. h })
 
-table_named : (table name : List ℕ) (cols : List Col) (s : Statement) (x : Stmt) → Some name ≡ Some table → Reprint name cols s x → Reprint table cols s x
-table_named table name cols s x e h = subst (λ (t : List ℕ). Reprint t cols s x) (some_is name table e) h
+-- the table is this one, where one is named
+abbrev pub IsOwn : List ℕ → Option (List ℕ) → Type 0
+IsOwn table None = Unit {0}
+IsOwn table (Some name) = name ≡ table
+
+table_named : (table name : List ℕ) (cols : List Col) (s : Statement) (x : Stmt) → name ≡ table → Reprint name cols s x → Reprint table cols s x
+table_named table name cols s x e h = subst (λ (t : List ℕ). Reprint t cols s x) e h
+
+-- a statement of a transaction
+alone : (table : List ℕ) (cols : List Col) (s : Statement) (x y : Stmt) → Some y ≡ Some x → wheres_of s ≡ None → stmt_line table cols y ≡ plain_stmt None s → StmtIsWritten y → Reprint table cols s x
+alone table cols s x y e none line written =
+    along table cols s x y e (record { pred = every_row; was = ap (λ (w : Option Tree). where_of cols w) none; line = line; written = λ h. written })
 
 -- a built statement that means something is printed as itself, made plain
-pub reprint : (table : List ℕ) (cols : List Col) (s : Statement) (x : Stmt) → is_built_stmt s ≡ true → table_of s ≡ Some table → stmt_of cols s ≡ Some x → Reprint table cols s x
+pub reprint : (table : List ℕ) (cols : List Col) (s : Statement) (x : Stmt) → is_built_stmt s ≡ true → IsOwn table (table_of s) → stmt_of cols s ≡ Some x → Reprint table cols s x
 reprint table cols (stmt.Insert name tuples) x b t e = table_named table name cols (stmt.Insert name tuples) x t (inserted name cols tuples x e)
 reprint table cols (stmt.Update name sets wheres) x b t e = table_named table name cols (stmt.Update name sets wheres) x t (updated name cols sets wheres x e)
 reprint table cols (stmt.Delete name wheres) x b t e = table_named table name cols (stmt.Delete name wheres) x t (deleted name cols wheres x e)
@@ -211,9 +221,10 @@ reprint table cols (stmt.Select raws name wheres order limit) x b t e =
     table_named table name cols (stmt.Select raws name wheres order limit) x t (selected name cols raws wheres order limit x e)
 reprint table cols (stmt.Aggregate aggregates name wheres) x b t e =
     table_named table name cols (stmt.Aggregate aggregates name wheres) x t (aggregated name cols aggregates wheres x e)
-reprint table cols (stmt.Begin read_only) x b t e = absurd cc
-reprint table cols stmt.Commit x b t e = absurd cc
-reprint table cols stmt.Rollback x b t e = absurd cc
+reprint table cols (stmt.Begin true) x b t e = alone table cols (stmt.Begin true) x made.BeginReadOnly e refl refl tt
+reprint table cols (stmt.Begin false) x b t e = alone table cols (stmt.Begin false) x made.Begin e refl refl tt
+reprint table cols stmt.Commit x b t e = alone table cols stmt.Commit x made.Commit e refl refl tt
+reprint table cols stmt.Rollback x b t e = alone table cols stmt.Rollback x made.Rollback e refl refl tt
 reprint table cols (stmt.Flush step) x b t e = absurd cc
 reprint table cols (stmt.Merge step) x b t e = absurd cc
 reprint table cols stmt.Upload x b t e = absurd cc

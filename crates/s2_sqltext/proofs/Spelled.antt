@@ -296,9 +296,10 @@ stmt_fine (stmt.Aggregate aggregates table wheres) b t n l c =
       join (listed agg_words aggregates) (token.Key key.From ∷ token.Name table ∷ wheres_words words wheres)
           (listed_all (λ a. AreNames (agg_columns a)) IsFine agg_words aggregates tt agg_fine (aggs_fine aggregates a.0)) (tt, (t, where_fine wheres a.1 l)),
     )
-stmt_fine (stmt.Begin read_only) b t n l c = absurd cc
-stmt_fine stmt.Commit b t n l c = absurd cc
-stmt_fine stmt.Rollback b t n l c = absurd cc
+stmt_fine (stmt.Begin true) b t n l c = (tt, (tt, (tt, tt)))
+stmt_fine (stmt.Begin false) b t n l c = (tt, tt)
+stmt_fine stmt.Commit b t n l c = (tt, tt)
+stmt_fine stmt.Rollback b t n l c = (tt, tt)
 stmt_fine (stmt.Flush step) b t n l c = absurd cc
 stmt_fine (stmt.Merge step) b t n l c = absurd cc
 stmt_fine stmt.Upload b t n l c = absurd cc

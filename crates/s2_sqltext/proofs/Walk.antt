@@ -1,5 +1,5 @@
 -- What is known of a script after its lines: its table and its statements are printed right.
-use Rattle.std.proofs.Common.{◌≡◌, ℕ, ◌+◌, ◌≤◌, inl, inr, Bool, true, false, List, [], ◌∷◌, ◌++◌, Option, Some, None, Ok, Err, map, not, ◌&&◌, ◌||◌, ◌==◌, if◌then◌else◌, is_some, is_none, nat_lt, length, refl, sym, ap, subst, ◌∙◌, arith}
+use Rattle.std.proofs.Common.{◌≡◌, ℕ, ◌+◌, ◌≤◌, inl, inr, Bool, true, false, List, [], ◌∷◌, ◌++◌, Option, Some, None, Ok, Err, map, not, ◌||◌, ◌==◌, if◌then◌else◌, is_some, is_none, nat_le, nat_lt, length, refl, sym, ap, subst, ◌∙◌, arith}
 use Rattle.std.specs.List.{list_any, AllByRecursion}
 use Rattle.std.specs.Str.{bytes_eq}
 use Rattle.std.proofs.lemmas.Bool.{and_parts}
@@ -24,7 +24,7 @@ use Rattle.s2_line.specs.declared.forms.RawKey.{RawKey}
 use Rattle.s2_line.specs.Words.{Any, TupleFits, WheresFit, StmtFits, RawFits, EndsAs, IsLine, raw_words}
 use Rattle.s2_judge.specs.declared.known.Known.{Known}
 use Rattle.s2_judge.specs.declared.known.Table.{Table}
-use Rattle.s2_judge.specs.Kinds.{Line as Raw, Statement, wheres_of, table_of, literals_of, counts_of, columns_of, is_wide, is_wide_count, is_wide_stmt, is_other_table, is_unknown_in, has_column, is_built_stmt, fault_of, known_after, no_lines}
+use Rattle.s2_judge.specs.Kinds.{Line as Raw, Statement, wheres_of, table_of, literals_of, counts_of, columns_of, is_wide, is_wide_count, is_wide_stmt, is_no_session, has_long_table, is_long_name, is_large_stmt, is_large_tree, is_other_table, is_unknown_in, has_column, is_built_stmt, fault_of, known_after, no_lines}
 use Rattle.s2_script.specs.Lines.{lines_of, with_byte, without_return}
 use Rattle.s2_script.specs.Script.{Outcome, Judged, Then, Ends, Runs, ReadBy, with_line}
 use Rattle.s2_script.specs.declared.verdicts.Verdict.{Verdict}
@@ -44,7 +44,7 @@ use Rattle.s2_sqltext.proofs.Items.{some_is, bound, some_mapped}
 use Rattle.s2_sqltext.proofs.GoodLines.{IsGoodLine}
 use Rattle.s2_sqltext.proofs.Plain.{plain}
 use Rattle.s2_sqltext.proofs.Trees.{PredLaw, PlainWhere, plain_where}
-use Rattle.s2_sqltext.proofs.Reprinted.{plain_set, plain_stmt, Reprint, reprint, means_plain}
+use Rattle.s2_sqltext.proofs.Reprinted.{plain_set, plain_stmt, IsOwn, Reprint, reprint, means_plain}
 use Rattle.s2_sqltext.proofs.Faults.{faultless, literals_plain, columns_plain, table_plain, counts_plain, built_plain, still_faultless}
 use Rattle.s2_sqltext.proofs.Spelled.{AreNames, AreLiterals, IsFineTable, known_names, fine_literals, clean_literals, stmt_fine}
 use Rattle.s2_sqltext.proofs.Tables.{chosen, TableFine, table_fine}
@@ -58,31 +58,13 @@ pub record LineFine (t : Table) (p : Parts) (line : Line) : Type 0 where
   pub means : line_of p.cols line.session (stmt_line p.table p.cols line.stmt) ≡ Some line
   pub written : StmtIsWritten line.stmt
 
-built_session : (k : ℕ) (b : Bool) → not (k == 1 && b) ≡ false → (k ≡ 1) × (b ≡ true)
-built_session k b h =
-    let parts = and_parts (k == 1) b (not_false (k == 1 && b) h) in
-    let one : k ≡ 1 = grind (arith, nat_tests) in
-    (one, parts.1)
+-- a session from 1 to 16
+within_session : (k : ℕ) (a b c d : Bool) → (is_no_session k || a || b || c || d) ≡ false → is_between 1 16 k ≡ true
+within_session k a b c d h = not_false (is_between 1 16 k) (neither (is_no_session k) a (neither (is_no_session k || a) b (neither (is_no_session k || a || b) c (neither (is_no_session k || a || b || c) d h).0).0).0).0
 
-named_same : (t : Table) (name : List ℕ) → not (bytes_eq t.name name) ≡ false → Some name ≡ Some t.name
-named_same t name h = ap Some (sym ((bytes_eq-Decides t.name name).0 (not_false (bytes_eq t.name name) h)))
-
-own_table : (t : Table) (s : Statement) → is_built_stmt s ≡ true → is_other_table t (table_of s) ≡ false → table_of s ≡ Some t.name
-own_table t (stmt.Insert table tuples) b h = named_same t table h
-own_table t (stmt.Update table sets wheres) b h = named_same t table h
-own_table t (stmt.Delete table wheres) b h = named_same t table h
-own_table t (stmt.Select raws table wheres order limit) b h = named_same t table h
-own_table t (stmt.Aggregate aggregates table wheres) b h = named_same t table h
-own_table t (stmt.Begin read_only) b h = absurd cc
-own_table t stmt.Commit b h = absurd cc
-own_table t stmt.Rollback b h = absurd cc
-own_table t (stmt.Flush step) b h = absurd cc
-own_table t (stmt.Merge step) b h = absurd cc
-own_table t stmt.Upload b h = absurd cc
-own_table t stmt.Evict b h = absurd cc
-own_table t stmt.Vacuum b h = absurd cc
-own_table t (stmt.Mark n) b h = absurd cc
-own_table t (stmt.After n) b h = absurd cc
+own_table : (t : Table) (o : Option (List ℕ)) → is_other_table t o ≡ false → IsOwn t.name o
+own_table t None h = tt
+own_table t (Some name) h = sym ((bytes_eq-Decides t.name name).0 (not_false (bytes_eq t.name name) h))
 
 where_fits : (s : Statement) → StmtFits IsGrouped s → WheresFit IsGrouped (wheres_of s)
 where_fits s h = elim s as (λ s. StmtFits IsGrouped s → WheresFit IsGrouped (wheres_of s)) [
@@ -102,9 +84,9 @@ fits_plain w (stmt.Update table sets wheres) b g h = (some_mapped Any Any plain_
 fits_plain w (stmt.Delete table wheres) b g h = g
 fits_plain w (stmt.Select raws table wheres order limit) b g h = (h.0, g)
 fits_plain w (stmt.Aggregate aggregates table wheres) b g h = (h.0, g)
-fits_plain w (stmt.Begin read_only) b g h = absurd cc
-fits_plain w stmt.Commit b g h = absurd cc
-fits_plain w stmt.Rollback b g h = absurd cc
+fits_plain w (stmt.Begin read_only) b g h = tt
+fits_plain w stmt.Commit b g h = tt
+fits_plain w stmt.Rollback b g h = tt
 fits_plain w (stmt.Flush step) b g h = absurd cc
 fits_plain w (stmt.Merge step) b g h = absurd cc
 fits_plain w stmt.Upload b g h = absurd cc
@@ -115,9 +97,9 @@ fits_plain w (stmt.After n) b g h = absurd cc
 
 -- how a line of a session is printed, and why that is right
 record Again (known : Known) (t : Table) (p : Parts) (k : ℕ) (s : Statement) (x : Stmt) : Type 0 where
-  one : k ≡ 1
+  session : is_between 1 16 k ≡ true
   built : is_built_stmt s ≡ true
-  table : table_of s ≡ Some t.name
+  table : IsOwn t.name (table_of s)
   names : AreNames (columns_of s)
   wide : list_any is_wide (literals_of s) ≡ false
   counts : list_any is_wide_count (counts_of s) ≡ false
@@ -128,16 +110,16 @@ again : PredLaw → (known : Known) (t : Table) (p : Parts) (k : ℕ) (s : State
     → StmtFits IsGrouped s → stmt_of p.cols s ≡ Some x → Again known t p k s x
 again law known t p k s x is fine none fits e =
     let f = faultless known (raw.Session k s) none in
-    let b = built_session k (is_built_stmt s) f.built in
+    let built = not_false (is_built_stmt s) f.built in
     let unknown : is_unknown_in (Some t) s ≡ false = ap (λ (o : Option Table). is_unknown_in o s) (sym is) ∙ f.name in
     let u = neither (is_other_table t (table_of s)) (list_any (λ name. not (has_column t.columns name)) (columns_of s)) unknown in
     let wide = neither (is_wide_count k) (is_wide_stmt s) f.range in
     let literals = neither (list_any is_wide (literals_of s)) (list_any is_wide_count (counts_of s)) wide.1 in
-    let own = own_table t s b.1 u.0 in
-    let r = reprint p.table p.cols s x b.1 (own ∙ ap Some (sym fine.named)) e in
+    let own = own_table t (table_of s) u.0 in
+    let r = reprint p.table p.cols s x built (subst (λ (n : List ℕ). IsOwn n (table_of s)) (sym fine.named) own) e in
     record {
-      one = b.0;
-      built = b.1;
+      session = within_session k (has_long_table (table_of s)) (list_any is_long_name (columns_of s)) (is_large_stmt s) (is_large_tree (wheres_of s)) f.limit;
+      built = built;
       table = own;
       names = known_names t.columns (columns_of s) fine.columns u.1;
       wide = literals.0;
@@ -146,28 +128,33 @@ again law known t p k s x is fine none fits e =
       where' = plain_where law p.cols (wheres_of s) r.pred (where_fits s fits) r.was;
     }
 
-fine_table : (t : Table) (o : Option (List ℕ)) → o ≡ Some t.name → is_name t.name ≡ true → IsFineTable o
-fine_table t o e h = subst (λ (n : Option (List ℕ)). IsFineTable n) (sym e) h
+fine_table : (t : Table) (o : Option (List ℕ)) → IsOwn t.name o → is_name t.name ≡ true → IsFineTable o
+fine_table t None e h = tt
+fine_table t (Some name) e h = subst (λ (n : List ℕ). is_name n ≡ true) (sym e) h
+
+small_session : (k : ℕ) → is_between 1 16 k ≡ true → k ≤ most_number
+small_session k h =
+    let parts = and_parts (nat_le 1 k) (nat_le k 16) h in
+    let most : k ≤ 16 = grind (arith, nat_tests, parts.1) in
+    omega (arith, most)
 
 good_session : (t : Table) (p : Parts) (known : Known) (k : ℕ) (s : Statement) (x : Stmt) → TableFine t p → IsCleanStmt s → StmtFits IsGrouped s → (a : Again known t p k s x)
     → IsGoodLine (raw.Session k (plain_stmt (where_line p.cols a.print.pred) s))
 good_session t p known k s x fine c fits a =
     let w = where_line p.cols a.print.pred in
-    let small : k ≤ most_number = omega (arith, a.one) in
+    let small = small_session k a.session in
+    let own : IsOwn t.name (table_of (plain_stmt w s)) = subst (λ (o : Option (List ℕ)). IsOwn t.name o) (sym (table_plain w s)) a.table in
     let built = built_plain w s ∙ a.built in
     let names : AreNames (columns_of (plain_stmt w s)) = subst (λ (ns : List (List ℕ)). AreNames ns) (sym (columns_plain w s a.where'.same_tests)) a.names in
     let literals : AreLiterals (literals_of (plain_stmt w s)) = subst (λ (xs : List Literal). AreLiterals xs) (sym (literals_plain w s a.where'.same_tests)) (fine_literals (literals_of s) (clean_literals s c) a.wide) in
     let counts : list_any is_wide_count (counts_of (plain_stmt w s)) ≡ false = ap (λ (ns : List ℕ). list_any is_wide_count ns) (counts_plain w s) ∙ a.counts in
     record {
       fits = fits_plain w s a.built a.where'.fits fits;
-      fine = (small, (tt, stmt_fine (plain_stmt w s) built (fine_table t (table_of (plain_stmt w s)) (table_plain w s ∙ a.table) fine.name) names literals counts));
+      fine = (small, (tt, stmt_fine (plain_stmt w s) built (fine_table t (table_of (plain_stmt w s)) own fine.name) names literals counts));
     }
 
-within_session : (k : ℕ) → k ≡ 1 → is_between 1 16 k ≡ true
-within_session k e = ap (λ (n : ℕ). is_between 1 16 n) e
-
-line_made : (cols : List Col) (k : ℕ) (s : Statement) (x : Stmt) → k ≡ 1 → stmt_of cols s ≡ Some x → line_of cols k s ≡ Some (record { session = k; stmt = x })
-line_made cols k s x e h = rw (within_session k e, h) refl
+line_made : (cols : List Col) (k : ℕ) (s : Statement) (x : Stmt) → is_between 1 16 k ≡ true → stmt_of cols s ≡ Some x → line_of cols k s ≡ Some (record { session = k; stmt = x })
+line_made cols k s x within h = rw (within, h) refl
 
 session_fine : PredLaw → (known : Known) (t : Table) (p : Parts) (k : ℕ) (s : Statement) (x : Stmt) → known.table ≡ Some t → TableFine t p → fault_of known (raw.Session k s) ≡ None
     → StmtFits IsGrouped s → IsCleanStmt s → stmt_of p.cols s ≡ Some x → LineFine t p (record { session = k; stmt = x })
@@ -177,7 +164,7 @@ session_fine law known t p k s x is fine none fits c e =
     record {
       good = subst (λ (y : Statement). IsGoodLine (raw.Session k y)) (sym a.print.line) (good_session t p known k s x fine c fits a);
       sound = λ after same. ap (λ (y : Statement). fault_of after (raw.Session k y)) a.print.line ∙ still_faultless known after w k s (same ∙ sym is) a.where'.same_tests a.where'.small a.built none;
-      means = ap (λ (y : Statement). line_of p.cols k y) a.print.line ∙ line_made p.cols k (plain_stmt w s) x a.one (means_plain p.cols w s (a.where'.means ∙ sym a.print.was) ∙ e);
+      means = ap (λ (y : Statement). line_of p.cols k y) a.print.line ∙ line_made p.cols k (plain_stmt w s) x a.session (means_plain p.cols w s (a.where'.means ∙ sym a.print.was) ∙ e);
       written = a.print.written a.where'.written;
     }
 

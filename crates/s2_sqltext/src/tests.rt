@@ -8,7 +8,7 @@ use std::test::Fail;
 const DEFAULTS: &str =
     "OPTION segment_rows 4096\nOPTION flush_rows 1024\nOPTION fanout 4\nOPTION cache 16\nOPTION workers 1\n";
 
-const SCRIPTS: [(&[u8], &str); 5] = [
+const SCRIPTS: [(&[u8], &str); 6] = [
     (
         b"\n \t-- \xff\xfe\nCreate taBLE t ( a INT,b text , SORT KEY (b,a), key(a), KEY (b , a) ) ;\r\n1:\tinsert into t values(1,'it''s'),(-2 , ''),( -0,'a\tb'), (007, ';--')\n\n1: INSERT INTO t VALUES (-9223372036854775808, ''''), (9223372036854775807, 'Z')",
         "CREATE TABLE t (a INT, b TEXT, KEY (a), KEY (b, a), SORT KEY (b, a))\n1: INSERT INTO t VALUES (1, 'it''s'), (-2, ''), (0, 'a\tb'), (7, ';--')\n1: INSERT INTO t VALUES (-9223372036854775808, ''''), (9223372036854775807, 'Z')\n",
@@ -28,6 +28,10 @@ const SCRIPTS: [(&[u8], &str); 5] = [
     (
         b"CREATE TABLE t (a TEXT, KEY (a))",
         "CREATE TABLE t (a TEXT, KEY (a))\n",
+    ),
+    (
+        b"CREATE TABLE t (a INT, b TEXT, KEY (b), unique  key(b,a), SORT KEY (a), Unique Key ( a ) )\n 2 : begin\n16: BEGIN Read only ;\n2:insert into t values (1,'x')\r\n016: commit\n2: Rollback;\n1: COMMIT",
+        "CREATE TABLE t (a INT, b TEXT, UNIQUE KEY (b, a), UNIQUE KEY (a), KEY (b), SORT KEY (a))\n2: BEGIN\n16: BEGIN READ ONLY\n2: INSERT INTO t VALUES (1, 'x')\n16: COMMIT\n2: ROLLBACK\n1: COMMIT\n",
     ),
 ];
 
