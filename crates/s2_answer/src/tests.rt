@@ -1,4 +1,7 @@
 //! Worked answers.
+ghost use Rattle.std.specs.Prelude.{◌≡◌, IfOk, true};
+ghost use Rattle.s2_model.specs.Table.{rises_above};
+
 use crate::answer;
 use s2_model::{Agg, Cell, Condition, Items, Op, Pred, Select};
 use s2_value::{Row, Seq, Txt, Value};
@@ -85,28 +88,45 @@ fn tell(alloc: Global, rows: &[Seq<Cell>]) -> Result<String, Fail> {
     Ok(told)
 }
 
+// A table of four rows.
+fn table(alloc: Global) -> Result<[(u64, Row); 4], Fail>
+    ensures { IfOk result (λ rows. rises_above 0 rows ≡ true) }
+{
+    let first = row(alloc, 8, "ab")?;
+    let second = row(alloc, 4, "b")?;
+    let third = row(alloc, 3, "a")?;
+    let last = row(alloc, -9223372036854775808, "b")?;
+    Ok([(1, first), (2, second), (3, third), (5, last)])
+}
+
+fn is_told(alloc: Global, asked: Asked, rows: &[(u64, Row)], told: &str) -> Result<bool, Fail>
+    requires { rises_above 0 rows.now ≡ true }
+{
+    let answered = answer(alloc, &select_of(alloc, asked)?, rows)?;
+    Ok(tell(alloc, answered.as_slice())?.as_str() == told)
+}
+
 #[test]
 fn selects_are_answered(rt: HostRuntime) -> Result<(), Fail> {
     let alloc = rt.alloc();
-    let none = select_of(alloc, Ends)?;
-    let answered = answer(alloc, &none, &[])?;
-    assert_eq!(rt;
-        tell(alloc, answered.as_slice())?.as_str(),
-        " | NULL 0 NULL NULL"
+    assert!(rt; is_told(alloc, Ends, &[], " | NULL 0 NULL NULL")?);
+    let rows = table(alloc)?;
+    assert!(rt;
+        is_told(
+            alloc,
+            ByText(3),
+            &rows,
+            " | -9223372036854775808 b | 4 b | 8 ab"
+        )?
     );
-    let rows = [
-        (1, row(alloc, 8, "ab")?),
-        (2, row(alloc, 4, "b")?),
-        (3, row(alloc, 3, "a")?),
-        (5, row(alloc, -9223372036854775808, "b")?),
-    ];
-    for (asked, told) in [
-        (ByText(3), " | -9223372036854775808 b | 4 b | 8 ab"),
-        (Others(8, 2), " | 4 b | 3 a"),
-        (Ends, " | -9223372036854775808 4 -9223372036854775793 8"),
-    ] {
-        let answered = answer(alloc, &select_of(alloc, asked)?, &rows)?;
-        assert_eq!(rt; tell(alloc, answered.as_slice())?.as_str(), told);
-    }
+    assert!(rt; is_told(alloc, Others(8, 2), &rows, " | 4 b | 3 a")?);
+    assert!(rt;
+        is_told(
+            alloc,
+            Ends,
+            &rows,
+            " | -9223372036854775808 4 -9223372036854775793 8"
+        )?
+    );
     Ok(())
 }

@@ -1,6 +1,9 @@
 pub mod Answering
 pub mod BuiltHistories
+pub mod Candidates
 pub mod Fitting
+pub mod Indexes
+pub mod KeysInTurn
 pub mod Known
 pub mod LastPuts
 pub mod MapRows

@@ -5,6 +5,7 @@ mod answers;
 mod fits;
 #[cfg(test)]
 mod generated;
+mod index;
 mod judge;
 mod keys;
 mod laws;

@@ -1,9 +1,10 @@
 //! The open writes of an actor.
 ghost use Rattle.std.specs.Prelude.{◌≡◌, ◌++◌, ◌∷◌, [], IfOk, OnOk};
+ghost use Rattle.std.specs.Option.{option_copied};
 ghost use Rattle.std.specs.BTreeMap.{get};
 ghost use Rattle.std.specs.Ordering.{nat_cmp};
 ghost use Rattle.s2_model.specs.Table.{touches};
-ghost use Rattle.s2_legal.specs.Lasts.{KnowsLast, is_put, is_left};
+ghost use Rattle.s2_legal.specs.Lasts.{KnowsLast, is_put, is_left, last_of};
 
 use s2_model::Change;
 use s2_slow::number_of;
@@ -13,12 +14,12 @@ use std::collections::BTreeMap;
 use std::marker::Model;
 use std::mem;
 
-/// The changes of an actor's open writes in their order, and of each row that they change whether the last of them puts it.
+/// The changes of an actor's open writes in their order, and of each row that they change the place of the last of them.
 /// In contracts it is the list of the changes.
 #[derive(Drop)]
 pub struct OpenWrites {
     changes: Vec<Change>,
-    puts: BTreeMap<u64, bool>,
+    places: BTreeMap<u64, usize>,
 }
 
 impl Model for OpenWrites {
@@ -32,7 +33,7 @@ impl Model for OpenWrites {
 
     ghost view = { λ w. w.changes.items };
 
-    ghost invariant = { λ w. KnowsLast (get nat_cmp w.puts) w.changes.items };
+    ghost invariant = { λ w. KnowsLast (get nat_cmp w.places) w.changes.items };
 }
 
 fn is_put(change: &Change) -> bool
@@ -47,14 +48,14 @@ fn is_put(change: &Change) -> bool
 #[tactic(auto, using(crate::proofs::LastPuts::knows_more))]
 fn add(
     changes: &mut Vec<Change>,
-    puts: &mut BTreeMap<u64, bool>,
+    places: &mut BTreeMap<u64, usize>,
     change: &Change,
 ) -> Result<(), Memory>
-    requires { KnowsLast (get nat_cmp puts.old) changes.old.items }
+    requires { KnowsLast (get nat_cmp places.old) changes.old.items }
     ensures changes { OnOk result (changes.new.items ≡ changes.old.items ++ change.now ∷ []) }
-    ensures last { OnOk result (KnowsLast (get nat_cmp puts.new) changes.new.items) }
+    ensures last { OnOk result (KnowsLast (get nat_cmp places.new) changes.new.items) }
 {
-    puts.insert(number_of(change), is_put(change))?;
+    places.insert(number_of(change), changes.len())?;
     changes.push(change.copy()?)?;
     Ok(())
 }
@@ -67,7 +68,7 @@ impl OpenWrites {
     {
         OpenWrites {
             changes: Vec::new(alloc),
-            puts: BTreeMap::new(alloc),
+            places: BTreeMap::new(alloc),
         }
     }
 
@@ -76,12 +77,12 @@ impl OpenWrites {
     {
         let OpenWrites {
             mut changes,
-            mut puts,
+            mut places,
         } = self;
         for change in more {
-            add(&mut changes, &mut puts, change)?;
+            add(&mut changes, &mut places, change)?;
         }
-        Ok(OpenWrites { changes, puts })
+        Ok(OpenWrites { changes, places })
     }
 
     /// Puts copies of further changes behind the others; each costs a look-up. After want of memory there are none left.
@@ -107,19 +108,30 @@ impl OpenWrites {
         self.changes
     }
 
+    /// The last of the changes that are of this row. It costs a look-up.
+    pub(crate) fn last(&self, number: u64) -> Option<&Change>
+        ensures { option_copied result ≡ last_of self.now number }
+    {
+        match self.places.get(&number) {
+            Some(place) => self.changes.get(*place),
+            None => None,
+        }
+    }
+
     /// Whether one of the changes is of this row. It costs a look-up.
     pub(crate) fn touches(&self, number: u64) -> bool
         ensures { result ≡ touches self.now number }
     {
-        self.puts.contains_key(&number)
+        self.last(number).is_some()
     }
 
     /// Whether there is a row of this number after the changes, from whether there was one before them. It costs a look-up.
+    #[tactic(auto, using(crate::proofs::LastPuts::last_left))]
     pub(crate) fn is_left(&self, number: u64, was: bool) -> bool
         ensures { result ≡ is_left self.now number was }
     {
-        match self.puts.get(&number) {
-            Some(is_put) => *is_put,
+        match self.last(number) {
+            Some(change) => is_put(change),
             None => was,
         }
     }

@@ -1,6 +1,6 @@
 //! The rows of a table by number.
 ghost use Rattle.std.specs.Prelude.{◌≡◌, IfOk, OnOk, is_some};
-ghost use Rattle.s2_model.specs.Table.{row_at, drop_row, apply_change, apply};
+ghost use Rattle.s2_model.specs.Table.{row_at, drop_row, apply_change};
 ghost use Rattle.s2_model.specs.Answer.{kept};
 
 use s2_model::{Change, Condition, matches};
@@ -21,7 +21,7 @@ fn drop_row(rows: &mut Rows, number: u64)
 }
 
 #[tactic(auto, using(crate::proofs::MapRows::put_entry))]
-fn apply_change(rows: &mut Rows, change: Change) -> Result<(), Memory>
+pub(crate) fn apply_change(rows: &mut Rows, change: Change) -> Result<(), Memory>
     ensures { OnOk result (rows.new.entries ≡ apply_change rows.old.entries change) }
 {
     match change {
@@ -31,16 +31,6 @@ fn apply_change(rows: &mut Rows, change: Change) -> Result<(), Memory>
         Change::Drop(number) => {
             drop_row(rows, number);
         }
-    }
-    Ok(())
-}
-
-/// The changes in turn.
-pub(crate) fn apply_all(rows: &mut Rows, changes: Vec<Change>) -> Result<(), Memory>
-    ensures { OnOk result (rows.new.entries ≡ apply rows.old.entries changes.items) }
-{
-    for change in changes {
-        apply_change(rows, change)?;
     }
     Ok(())
 }

@@ -1,17 +1,19 @@
 //! The content after a history, with each actor's open writes.
-ghost use Rattle.std.specs.Prelude.{◌≡◌, ℕ, ◌<◌, ◌++◌, [], IfOk, OnOk, false, length, slice_set};
+ghost use Rattle.std.specs.Prelude.{◌≡◌, ℕ, List, ◌<◌, ◌++◌, [], IfOk, OnOk, false, length, slice_set};
 ghost use Rattle.s2_model.specs.History.{History, ◌▷◌, pending_after, greatest_in};
 ghost use Rattle.s2_model.specs.Table.{apply};
 ghost use Rattle.s2_model.specs.Answer.{kept};
 ghost use Rattle.s2_model.specs.Held.{sessions};
+ghost use Rattle.s2_legal.specs.Keys.{IsIndexed};
 ghost use Rattle.s2_legal.specs.Knows.{IsKept, Knows};
 ghost use Rattle.s2_legal.specs.World.{open_of, flag_of, view_in, sees_in, holder_in};
 
+use crate::index::{KeyIndex, commit_puts, list_none, list_puts, no_puts};
 use crate::opens::OpenWrites;
-use crate::tables::{Rows, all_rows, apply_all, has_row, kept_rows};
+use crate::tables::{Rows, all_rows, has_row, kept_rows};
 use s2_model::{Change, Condition, Entry, What};
 use s2_slow::{apply, kept, number_of, sessions};
-use s2_value::{Memory, Row, Schema};
+use s2_value::{ColList, Memory, Row, Schema};
 use std::alloc::Global;
 use std::collections::BTreeMap;
 use std::mem;
@@ -20,6 +22,7 @@ use std::mem;
 const ACTORS: usize = 256;
 
 /// The content, the open writes of each actor, the greatest row number in any write, and of each actor whether it is in a transaction that writes and whether it reads at a pin.
+/// Beside them the row numbers by values of the unique keys: those of the content, and of each actor those that its open writes put.
 #[derive(Drop)]
 pub struct World {
     pub rows: Rows,
@@ -27,6 +30,8 @@ pub struct World {
     pub greatest: u64,
     pub running: Vec<bool>,
     pub pinned: Vec<bool>,
+    pub index: KeyIndex,
+    pub puts: Vec<KeyIndex>,
 }
 
 fn no_writes(alloc: Global) -> Result<Vec<OpenWrites>, Memory>
@@ -65,6 +70,7 @@ fn greatest_in(changes: &[Change], was: u64) -> u64
 
 impl World {
     /// Before the first entry.
+    #[tactic(auto, using(crate::proofs::Indexes::indexed_none))]
     pub(crate) fn new(alloc: Global, schema: &Schema) -> Result<World, Memory>
         ensures { IfOk result (λ w. Knows schema.now w []) }
     {
@@ -74,6 +80,8 @@ impl World {
             greatest: 0,
             running: no_flags(alloc)?,
             pinned: no_flags(alloc)?,
+            index: BTreeMap::new(alloc),
+            puts: no_puts(alloc)?,
         })
     }
 
@@ -93,40 +101,62 @@ impl World {
         self.pinned[usize::from(k)]
     }
 
-    fn write(&mut self, alloc: Global, k: usize, changes: &[Change]) -> Result<(), Memory>
-        requires { k < length self.old.writes.items }
+    fn write(
+        &mut self,
+        alloc: Global,
+        keys: &[ColList],
+        k: usize,
+        changes: &[Change],
+    ) -> Result<(), Memory>
+        requires writes { k < length self.old.writes.items }
+        requires puts { k < length self.old.puts.items }
         ensures open_writes { OnOk result (self.new.writes.items ≡ slice_set self.old.writes.items k (open_of self.old.writes.items k ++ changes.now)) }
         ensures number { OnOk result (self.new.greatest ≡ greatest_in changes.now self.old.greatest) }
         ensures rows { OnOk result (self.new.rows.entries ≡ self.old.rows.entries) }
         ensures running { OnOk result (self.new.running.items ≡ self.old.running.items) }
         ensures pinned { OnOk result (self.new.pinned.items ≡ self.old.pinned.items) }
+        ensures indexed { OnOk result (IsIndexed keys.now self.old.rows.entries self.old.writes.items self.old.index self.old.puts.items → IsIndexed keys.now self.new.rows.entries self.new.writes.items self.new.index self.new.puts.items) }
     {
         self.writes[k].extend(alloc, changes)?;
+        list_puts(&mut self.puts, alloc, keys, k, changes)?;
         self.greatest = greatest_in(changes, self.greatest);
         Ok(())
     }
 
-    fn commit(&mut self, alloc: Global, k: usize) -> Result<(), Memory>
-        requires { k < length self.old.writes.items }
+    fn commit(&mut self, alloc: Global, keys: &[ColList], k: usize) -> Result<(), Memory>
+        requires writes { k < length self.old.writes.items }
+        requires puts { k < length self.old.puts.items }
         ensures open_writes { OnOk result (self.new.writes.items ≡ slice_set self.old.writes.items k []) }
         ensures number { OnOk result (self.new.greatest ≡ self.old.greatest) }
         ensures rows { OnOk result (self.new.rows.entries ≡ apply self.old.rows.entries (open_of self.old.writes.items k)) }
         ensures running { OnOk result (self.new.running.items ≡ self.old.running.items) }
         ensures pinned { OnOk result (self.new.pinned.items ≡ self.old.pinned.items) }
+        ensures indexed { OnOk result (IsIndexed keys.now self.old.rows.entries self.old.writes.items self.old.index self.old.puts.items → IsIndexed keys.now self.new.rows.entries self.new.writes.items self.new.index self.new.puts.items) }
     {
         let open = mem::replace(&mut self.writes[k], OpenWrites::new(alloc));
-        apply_all(&mut self.rows, open.into_changes())
+        commit_puts(
+            &mut self.rows,
+            &mut self.index,
+            &mut self.puts,
+            alloc,
+            keys,
+            k,
+            open.into_changes(),
+        )
     }
 
     fn forget(&mut self, alloc: Global, k: usize)
-        requires { k < length self.old.writes.items }
+        requires writes { k < length self.old.writes.items }
+        requires puts { k < length self.old.puts.items }
         ensures open_writes { self.new.writes.items ≡ slice_set self.old.writes.items k [] }
         ensures number { self.new.greatest ≡ self.old.greatest }
         ensures rows { self.new.rows.entries ≡ self.old.rows.entries }
         ensures running { self.new.running.items ≡ self.old.running.items }
         ensures pinned { self.new.pinned.items ≡ self.old.pinned.items }
+        ensures indexed { (keys : List (List ℕ)) → IsIndexed keys self.old.rows.entries self.old.writes.items self.old.index self.old.puts.items → IsIndexed keys self.new.rows.entries self.new.writes.items self.new.index self.new.puts.items }
     {
         self.writes[k] = OpenWrites::new(alloc);
+        list_none(&mut self.puts, alloc, k);
     }
 
     /// After one entry more. After want of memory the world is of no history.
@@ -139,15 +169,16 @@ impl World {
         requires { IsKept schema.now self.old }
         ensures { OnOk result ((H : History) → Knows schema.now self.old H → Knows schema.now self.new (H ▷ entry.now)) }
     {
+        let keys = schema.uniques.as_slice();
         let k = usize::from(entry.actor);
         match &entry.what {
             What::Begin => {
                 self.forget(alloc, k);
                 self.running[k] = true;
             }
-            What::Write(changes) => self.write(alloc, k, changes.as_slice())?,
+            What::Write(changes) => self.write(alloc, keys, k, changes.as_slice())?,
             What::Commit => {
-                self.commit(alloc, k)?;
+                self.commit(alloc, keys, k)?;
                 self.running[k] = false;
             }
             What::Rollback => {

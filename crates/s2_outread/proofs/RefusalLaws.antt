@@ -1,15 +1,14 @@
 -- Refusals are read as they are written, and what is read is of its type.
-use Rattle.std.proofs.Common.{◌≡◌, ℕ, ◌+◌, ◌^◌, ◌<◌, eqb, List, [], ◌∷◌, ◌++◌, Option, Some, None, refl, ap, subst, ◌∙◌, append_assoc, arith, codes}
+use Rattle.std.proofs.Common.{◌≡◌, ℕ, ◌+◌, ◌^◌, ◌<◌, eqb, List, [], ◌∷◌, ◌++◌, Some, None, refl, ap, subst, ◌∙◌, arith, codes}
 use Rattle.std.specs.Fmt.{decimal}
 use Rattle.std.proofs.lemmas.Fmt.{decimal_digit, decimal_step}
 use Rattle.s2_model.specs.declared.replies.Refusal.{Refusal}
 use Rattle.s2_model.specs.declared.replies.Refusal.TheVariants as refusal
 use Rattle.s2_model.specs.OutputText.{field, refusal_text}
-use Rattle.s2_token.specs.Lexing.{◌>>=◌}
 use Rattle.s2_outread.specs.Lines.{IsRefusal}
 use Rattle.s2_outread.specs.Reading.{after, natural_at, below_at, short_at, held_at, locked_at, out_of_range_at, locked_value_at, duplicate_at, numbered_refusal, refusal_at}
 use Rattle.s2_outread.proofs.Tools.{after_again, regroup_3, regroup_4, ReadsOnly, only_is, bind_only, cond_only}
-use Rattle.s2_outread.proofs.TokenLaws.{Closes, spaced, ended, natural_at_again, natural_at_typed, below_at_again, below_at_typed}
+use Rattle.s2_outread.proofs.TokenLaws.{spaced, ended, natural_at_again, natural_at_typed, below_at_again, below_at_typed}
 
 -- the rest of a line from these numbers on
 abbrev one : ℕ → List ℕ → List ℕ

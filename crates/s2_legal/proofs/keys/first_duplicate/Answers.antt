@@ -1,20 +1,18 @@
-use Rattle.std.proofs.Common.{◌≡◌, ◌∙◌, ◌+◌, ◌-◌, ◌<◌, ℕ, List, false, length, take, drop, sym, ap, arith, length-drop}
-use Rattle.std.proofs.lemmas.List.{take_all, length-take}
-use Rattle.std.specs.Prelude.{is_some}
-use Rattle.s2_model.specs.Verdict.{first_from, first_some, duplicate_at}
-use Rattle.s2_verdict.proofs.FirstFound.{first_from_skips}
+use Rattle.std.proofs.Common.{ℕ, List, sym, ap, ◌∙◌, arith}
+use Rattle.s2_model.specs.Table.{apply}
+use Rattle.s2_model.specs.Verdict.{first_some, duplicate_at}
+use Rattle.s2_legal.specs.World.{view_in}
+use Rattle.s2_legal.proofs.KeysInTurn.{key_refuses, key_passes, none_if_not}
 use Rattle.s2_legal.proofs.keys.first_duplicate.Goals as goal
 
-pub loop-left-preserved : goal.loop-left-preserved
-loop-left-preserved c =
-    let at = λ (i : ℕ) (places : List ℕ). first_some (duplicate_at c.args.rows.now i places) c.args.changes.now in
-    let some : 0 < length c.loop-left.left.now = omega arith in
-    let xs = c.loop-left.left.now in
-    let rest : take (length xs - 1) (drop 1 xs) ≡ drop 1 xs = take_all (length xs - 1) (drop 1 xs) (omega (arith, length-drop 1 xs)) in
-    let told = c.in_ok-found.ensures.first ∙ ap (at c.loop-left.key) c.as_slice.ensures in
-    let none : is_some c.in_ok-found.found ≡ false = sym c.is_some.ensures ∙ c.if-is_some.false in
-    record {
-      found = ap (first_from (c.loop-left.key + 1) at) rest
-          ∙ first_from_skips at c.loop-left.key c.loop-left.left.now c.places-item.result c.in_ok-found.found some c.places-item.is told none ∙ c.loop-left.invariant.found;
-      within = omega (arith, length-drop 1 xs, length-take (length xs - 1) (drop 1 xs), c.loop-left.invariant.within);
-    }
+pub returns-in-Some-clause-first : goal.returns-in-Some-clause-first
+returns-in-Some-clause-first c =
+    sym (key_refuses (λ i key. first_some (duplicate_at (apply (view_in c.args.world.now.rows.entries c.args.world.now.writes.items c.args.k) c.args.after.now) i key) c.args.after.now)
+    c.args.keys.now c.loop-j.j c.in-Some.refusal (omega (arith, c.loop-j-test.true)) (sym c.in_ok-refusal.ensures.first ∙ c.in-Some.is))
+    ∙ c.loop-j.invariant
+
+pub loop-j-preserved : goal.loop-j-preserved
+loop-j-preserved c =
+    key_passes (λ i key. first_some (duplicate_at (apply (view_in c.args.world.now.rows.entries c.args.world.now.writes.items c.args.k) c.args.after.now) i key) c.args.after.now)
+    c.args.keys.now c.loop-j.j (omega (arith, c.loop-j-test.true)) (sym c.in_ok-refusal.ensures.first ∙ none_if_not c.in_ok-refusal.field-0 c.in_default.not-Some)
+    ∙ c.loop-j.invariant

@@ -1,12 +1,10 @@
-use Rattle.std.proofs.Common.{◌≡◌, ◌+◌, ◌≤◌, length}
+use Rattle.std.proofs.Common.{◌≡◌, suc, drop}
+use Rattle.s2_model.specs.Table.{apply}
 use Rattle.s2_model.specs.Verdict.{first_some, first_from, duplicate_at, duplicate}
+use Rattle.s2_legal.specs.World.{view_in}
 use Rattle.s2_legal.proofs.keys.first_duplicate.Given as goal
 
-abbrev pub invariant-loop-left : goal.invariant-loop-left
-invariant-loop-left l = record {
-  found : first_from l.key (λ i places. first_some (duplicate_at l.rows i places) l.changes) l.left ≡ duplicate l.rows l.keys l.changes;
-  within : l.key + length l.left ≤ 5;
-}
-
-abbrev pub decreases-loop-left : goal.decreases-loop-left
-decreases-loop-left l = length l.left
+abbrev pub invariant-loop-j : goal.invariant-loop-j
+invariant-loop-j l =
+    first_from (suc l.j) (λ i key. first_some (duplicate_at (apply (view_in l.world.rows.entries l.world.writes.items l.k) l.after) i key) l.after) (drop l.j l.keys)
+    ≡ duplicate (apply (view_in l.world.rows.entries l.world.writes.items l.k) l.after) l.keys l.after

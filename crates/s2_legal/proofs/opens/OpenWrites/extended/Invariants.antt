@@ -7,5 +7,5 @@ use Rattle.s2_legal.proofs.opens.OpenWrites.extended.Given as goal
 abbrev pub invariant-loop-change : goal.invariant-loop-change
 invariant-loop-change l = record {
   items : l.changes.items ≡ l.initial.changes.items ++ take l.change-index l.more;
-  last : KnowsLast (get nat_cmp l.puts) l.changes.items;
+  last : KnowsLast (get nat_cmp l.places) l.changes.items;
 }
