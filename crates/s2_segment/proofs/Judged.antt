@@ -1,6 +1,6 @@
 -- What is known of a file that was judged, from its bytes alone.
 use Rattle.std.proofs.Common.{◌≡◌, ℕ, zero, suc, ◌+◌, ◌*◌, ◌^◌, ◌<◌, ◌≤◌, Bool, true, false, nat_le, ◌&&◌, List, [], ◌∷◌, ◌++◌, length, drop, get_or, map, refl, sym, ap, subst, ◌∙◌, arith, Option, Result, Ok, Err}
-use Rattle.std.specs.Prelude.{◌/◌, zip, if◌then◌else◌}
+use Rattle.std.specs.Prelude.{◌/◌, zip, if◌then◌else◌, is_ok, IsOk}
 use Rattle.std.specs.List.{list_all, flat_map, AllByRecursion}
 use Rattle.std.proofs.lemmas.Bool.{leb-true}
 use Rattle.std.proofs.lemmas.List.{append_assoc, append-nil, length-append, length-map}
@@ -93,6 +93,10 @@ stood schema bytes rows file f e =
 pub viewed : (schema : Schema) (bytes : List ℕ) (rows : List RowOf) (file : FileOf) (view : Parts) → IsFile schema bytes rows → kept schema bytes ≡ file → parts_at schema bytes ≡ Ok view → file_at file.schema file.bytes ≡ Ok view
 viewed schema bytes rows file view f e h =
     subst (λ (x : FileOf). file_at x.schema x.bytes ≡ Ok view) e (f.read ∙ sym (parts_of_file schema bytes f.parts f.read) ∙ h)
+
+-- the parts of a file that was judged are read
+pub parts_judged : (schema : Schema) (bytes : List ℕ) (rows : List RowOf) → IsFile schema bytes rows → IsOk (parts_at schema bytes)
+parts_judged schema bytes rows f = ap is_ok (parts_of_file schema bytes f.parts f.read)
 
 -- the bytes after the head
 record Laid (content : List (ℕ × RowOf)) (bytes tail : List ℕ) : Type 0 where

@@ -1,4 +1,5 @@
 pub mod Steps
+pub mod Again
 pub mod Tables
 pub mod Values
 pub mod Turned

@@ -1,5 +1,5 @@
 //! The head of a file, and the row numbers.
-ghost use Rattle.std.specs.Prelude.{◌≡◌, ◌*◌, ◌≤◌, ◌<◌, nat_lt, length, IfOk};
+ghost use Rattle.std.specs.Prelude.{◌≡◌, ◌*◌, ◌≤◌, ◌<◌, true, nat_lt, length, IfOk, IsOk};
 ghost use Rattle.std.specs.List.{list_all};
 ghost use Rattle.byteorder.specs.Endian.{little_number};
 ghost use Rattle.s2_colbytes.specs.Numbers.{numbers};
@@ -114,14 +114,32 @@ pub(crate) fn are_ids(alloc: Global, ids: &[u8], count: usize) -> Result<bool, M
     are_distinct(alloc, ids, count)
 }
 
-/// The bytes of `n` row numbers, and the bytes after them.
+// Whether row numbers are positive and distinct, as those that were judged before are known to be.
+fn are_right(alloc: Global, ids: &[u8], count: usize, judged: bool) -> Result<bool, Memory>
+    requires whole { length ids.now ≡ 8 * count }
+    requires judged { judged ≡ true → are_ids (numbers 8 count ids.now) ≡ true }
+    ensures { IfOk result (λ b. b ≡ are_ids (numbers 8 count ids.now)) }
+{
+    if judged {
+        return Ok(true);
+    }
+    are_ids(alloc, ids, count)
+}
+
+/// The bytes of `n` row numbers, and the bytes after them. What was judged before is not checked again.
 #[tactic(auto, unfolding(crate::specs::Parts::ids_at))]
-pub(crate) fn split_ids(alloc: Global, n: u32, bytes: &[u8]) -> Result<(&[u8], &[u8]), SegErr>
+pub(crate) fn split_ids(
+    alloc: Global,
+    n: u32,
+    judged: bool,
+    bytes: &[u8],
+) -> Result<(&[u8], &[u8]), SegErr>
+    requires { judged ≡ true → IsOk (ids_at n bytes.now) }
     ensures gives { GivesOrMemory (λ x. (numbers 8 n x.0.now, x.1.now)) result (ids_at n bytes.now) }
     ensures whole { IfOk result (λ x. length x.0.now ≡ 8 * n) }
 {
     let (ids, rest) = split_front(bytes, 8 * u64::from(n))?;
-    if !are_ids(alloc, ids, n as usize)? {
+    if !are_right(alloc, ids, n as usize, judged)? {
         return Err(SegErr::BadRows);
     }
     Ok((ids, rest))

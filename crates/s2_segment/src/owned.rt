@@ -129,14 +129,14 @@ impl File {
         self.bytes.as_slice()
     }
 
-    /// What stands in the file. The columns and indexes are read again, but no row.
+    /// What stands in the file. The columns are read again, but no row number, index or row.
     pub fn view(&self, alloc: Global, schema: &Schema) -> Result<View<'_>, Memory>
         requires { schema.now ≡ self.now.schema }
         ensures same { IfOk result (λ view. file_at self.now.schema self.now.bytes ≡ Ok view) }
         ensures columns { IfOk result (λ view. length view.columns ≡ length schema.now.cols) }
         ensures indexes { IfOk result (λ view. length view.indexes ≡ length (keys_of schema.now)) }
     {
-        match read_parts(alloc, schema, self.bytes.as_slice()) {
+        match read_parts(alloc, schema, true, self.bytes.as_slice()) {
             Ok(view) => Ok(view),
             Err(_) => Err(AllocError),
         }

@@ -1,5 +1,5 @@
 //! A segment file, read in place.
-ghost use Rattle.std.specs.Prelude.{◌≡◌, ◌<◌, [], length, slice_index_or, IfOk};
+ghost use Rattle.std.specs.Prelude.{◌≡◌, ◌<◌, [], true, length, slice_index_or, IfOk, IsOk};
 ghost use Rattle.s2_value.specs.Schemas.{keys_of};
 ghost use Rattle.s2_segment.specs.Reading.{GivesOrMemory};
 ghost use Rattle.s2_segment.specs.Parts.{parts_at};
@@ -43,21 +43,23 @@ impl<'a> Model for View<'a> {
     ghost invariant = { λ v. IsView v.count v.ids.now v.columns.items };
 }
 
-/// The parts of a file, not yet checked together.
+/// The parts of a file, not yet checked together. Of a file that was judged before, row numbers and indexes are not checked again.
 #[tactic(auto, unfolding(crate::specs::Parts::parts_at))]
 pub(crate) fn read_parts<'a>(
     alloc: Global,
     schema: &Schema,
+    judged: bool,
     bytes: &'a [u8],
 ) -> Result<View<'a>, SegErr>
+    requires { judged ≡ true → IsOk (parts_at schema.now bytes.now) }
     ensures gives { GivesOrMemory (λ v. v) result (parts_at schema.now bytes.now) }
     ensures columns { IfOk result (λ v. length v.columns ≡ length schema.now.cols) }
     ensures indexes { IfOk result (λ v. length v.indexes ≡ length (keys_of schema.now)) }
 {
     let (count, rest) = split_head(schema, bytes)?;
-    let (ids, rest) = split_ids(alloc, count, rest)?;
+    let (ids, rest) = split_ids(alloc, count, judged, rest)?;
     let (columns, rest) = read_columns(alloc, schema.cols.as_slice(), count, rest)?;
-    let (indexes, rest) = read_indexes(alloc, schema, count, rest)?;
+    let (indexes, rest) = read_indexes(alloc, schema, count, judged, rest)?;
     let view = View {
         count,
         ids,
@@ -101,7 +103,7 @@ pub(crate) fn read_with_rows<'a>(
     ensures columns { IfOk result (λ x. length x.0.columns ≡ length schema.now.cols) }
     ensures indexes { IfOk result (λ x. length x.0.indexes ≡ length (keys_of schema.now)) }
 {
-    let view = read_parts(alloc, schema, bytes)?;
+    let view = read_parts(alloc, schema, false, bytes)?;
     let rows = all_rows(alloc, &view)?;
     match find_in(alloc, schema, &view, rows.as_slice())? {
         Some(err) => Err(err),
