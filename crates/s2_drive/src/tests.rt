@@ -2,7 +2,8 @@
 use crate::{are_taken, drive_call};
 use s2_histproof::print_output;
 use s2_model::{
-    Agg, Condition, Items, Line, Op, Options, Outcome, Pred, Script, Select, SetExpr, Stmt,
+    Agg, Condition, Items, Line, Op, Options, Outcome, Pred, Refusal, Reply, Script, Select,
+    SetExpr, Stmt,
 };
 use s2_value::{Col, ColList, ColType, Name, Schema, Seq, Value, are_within_limits};
 use sqlite_items::Boxed;
@@ -172,6 +173,42 @@ fn sessions_in_turn(rt: HostRuntime) -> Result<(), Fail> {
     ] {
         let text = print_output(alloc, &outcome)?;
         assert_eq!(rt; text.as_slice(), expected.as_bytes());
+    }
+    Ok(())
+}
+
+// INSERT of the numbers below this one.
+fn insert_below(alloc: Global, count: i64) -> Result<Stmt, Fail> {
+    let mut ids = Vec::new(alloc);
+    for id in 0..count {
+        ids.push(id)?;
+    }
+    insert(alloc, ids.as_slice())
+}
+
+// How many rows the only reply says were changed, and nothing where it says that they are too many.
+fn changed(outcome: &Outcome) -> Result<Option<u32>, Fail> {
+    let [transcript] = outcome.transcripts.as_slice() else {
+        return Err(Fail::from("one session"));
+    };
+    let [said] = transcript.said.as_slice() else {
+        return Err(Fail::from("one reply"));
+    };
+    match &said.reply {
+        Reply::Changed(count) => Ok(Some(*count)),
+        Reply::Refused(Refusal::TooManyRows) => Ok(None),
+        _ => Err(Fail::from("another reply")),
+    }
+}
+
+#[test]
+fn too_many_rows_are_refused(rt: HostRuntime) -> Result<(), Fail> {
+    let alloc = rt.alloc();
+    for (count, told) in [(65_536, Some(65_536)), (65_537, None)] {
+        let mut lines = Seq::new(alloc);
+        add(&mut lines, 1, insert_below(alloc, count)?)?;
+        let outcome = run(alloc, schema(alloc, false)?, lines)?;
+        assert_eq!(rt; changed(&outcome)?, told);
     }
     Ok(())
 }

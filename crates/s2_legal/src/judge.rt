@@ -48,7 +48,8 @@ fn fault_of(alloc: Global, script: &Script, run: &Outcome, k: u8) -> Result<Opti
 /// Its condition is that the transcripts are, by rising number, those of the sessions with a line, each with as many replies as lines,
 /// and that entries and statements are of the built kinds. The `Err` is want of memory.
 /// It goes once over the history, and once more for each session with a line. A change in an entry costs look-ups of its row in the table and among the open writes of each session;
-/// an INSERT costs the rows that it inserts, any other statement the rows of the table, and a SELECT with an order sorts once the rows that it finds.
+/// an INSERT costs the rows that it inserts, an UPDATE, DELETE or SELECT the rows of the table, and a SELECT with an order sorts once the rows that it finds. Each row that is put costs
+/// for each unique key a few look-ups among the rows that have its value, and one among the open writes of each session.
 pub fn legal(alloc: Global, script: &Script, run: &Outcome) -> Result<LegalAnswer, Memory>
     requires whole { IsWhole script.now run.now }
     requires built { IsBuilt script.now run.now }
