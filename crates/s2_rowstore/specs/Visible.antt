@@ -3,6 +3,7 @@ use Rattle.std.specs.Prelude.{ℕ, Bool, true, ◌&&◌, nat_lt, List, [], ◌�
 use Rattle.std.specs.List.{list_all}
 use Rattle.s2_value.specs.declared.values.Value.{Value}
 use Rattle.s2_rowstore.specs.Chains.{Line, body, seen}
+use denote.Ref.{Bor}
 
 -- each number is below those after it
 abbrev pub are_rising : List ℕ → Bool
@@ -22,3 +23,7 @@ with_row n (Some row) rows = (n, row) ∷ rows
 abbrev pub visible_in : ℕ → ℕ → List (ℕ × Line) → List (ℕ × List Value)
 visible_in k r [] = []
 visible_in k r (e ∷ es) = with_row e.0 (seen k r (body e.1)) (visible_in k r es)
+
+-- rows that are pointed at, with their numbers
+abbrev pub lent : List (ℕ × Bor (List Value)) → List (ℕ × List Value)
+lent ps = map (λ p. (p.0, p.1.now)) ps

@@ -7,7 +7,7 @@ ghost use Rattle.std.specs.List.{filter};
 ghost use Rattle.s2_rowstore.specs.Keys.{body_has};
 ghost use Rattle.std.specs.Ordering.{nat_cmp};
 ghost use Rattle.std.specs.List.Sorted.{IsStrictlySortedBy};
-ghost use Rattle.s2_rowstore.specs.Visible.{visible_in, numbers};
+ghost use Rattle.s2_rowstore.specs.Visible.{visible_in, numbers, lent};
 ghost use Rattle.s2_rowstore.specs.Lines.{line_at, body_at, for_row, names_row, are_apart, have_room, with_begun, with_slot, committed, undone, cut_body};
 ghost use Rattle.s2_rowstore.specs.Ends.{AreQueued};
 ghost use Rattle.s2_rowstore.specs.Store.{KeepsBut, KeepsHad};
@@ -221,6 +221,25 @@ pub(crate) fn visible_rows(
     for (id, chain) in lines {
         if let Some(row) = chain.seen(actor, r) {
             rows.add((*id, row.copy()?))?;
+        }
+    }
+    Ok(rows)
+}
+
+/// The same rows, lent: none is copied.
+pub(crate) fn lent_rows(
+    lines: &Lines,
+    alloc: Global,
+    actor: u8,
+    r: u64,
+) -> Result<Vec<(u64, &Row)>, Memory>
+    ensures rows { IfOk result (λ rows. lent rows.items ≡ visible_in actor r lines.now.entries) }
+    ensures ordered { IsStrictlySortedBy nat_cmp (numbers lines.now.entries) }
+{
+    let mut rows = Vec::new(alloc);
+    for (id, chain) in lines {
+        if let Some(row) = chain.seen(actor, r) {
+            rows.push((*id, row))?;
         }
     }
     Ok(rows)

@@ -6,14 +6,14 @@ ghost use Rattle.s2_rowstore.specs.Store.{chain, slot, rows_fit, changes_fit, sl
 ghost use Rattle.s2_rowstore.specs.Present.{AreFirst};
 ghost use Rattle.s2_value.specs.Schemas.{keys_of};
 ghost use Rattle.s2_rowstore.specs.Lines.{for_row, are_apart, names_row};
-ghost use Rattle.s2_rowstore.specs.Visible.{are_rising, numbers};
+ghost use Rattle.s2_rowstore.specs.Visible.{are_rising, numbers, lent};
 
 use crate::chain::{Slot, Version};
 use crate::copies::copy_schema;
 use crate::ends::{Ends, push_all};
 use crate::lines::{
-    Lines, begin_all, commit_all, cut_rows, end_line, put_all, row_since, rows_with_key, seen_row,
-    undo_all, visible_rows,
+    Lines, begin_all, commit_all, cut_rows, end_line, lent_rows, put_all, row_since, rows_with_key,
+    seen_row, undo_all, visible_rows,
 };
 use crate::notes::Notes;
 use crate::present::{changed_rows, drop_absent, drop_all_absent, first_free, list_rows};
@@ -223,6 +223,15 @@ impl Rowstore {
         ensures rising { IfOk result (λ rows. are_rising (numbers rows) ≡ true) }
     {
         visible_rows(&self.lines, alloc, actor, r)
+    }
+
+    /// The rows as the actor sees them at `r`, lent: none is copied.
+    #[tactic(auto, unfolding(crate::specs::Store::chain, crate::specs::Store::slot))]
+    pub fn seen_rows(&self, alloc: Global, actor: u8, r: u64) -> Result<Vec<(u64, &Row)>, Memory>
+        ensures rows { IfOk result (λ rows. (n : ℕ) → for_row (lent rows.items) n ≡ seen actor r (chain self.now n, slot self.now n)) }
+        ensures rising { IfOk result (λ rows. are_rising (numbers (lent rows.items)) ≡ true) }
+    {
+        lent_rows(&self.lines, alloc, actor, r)
     }
 
     /// The numbers of the rows, rising, of which the actor has an open write.

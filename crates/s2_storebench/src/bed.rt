@@ -183,6 +183,16 @@ impl Bed {
         Ok(self.store.visible(alloc, actor, r)?)
     }
 
+    /// The rows as the actor sees them at `r`, lent.
+    pub(crate) fn seen_rows(
+        &self,
+        alloc: Global,
+        actor: u8,
+        r: u64,
+    ) -> anyhow::Result<Vec<(u64, &Row)>> {
+        Ok(self.store.seen_rows(alloc, actor, r)?)
+    }
+
     /// The rows that the writer has open writes of.
     pub(crate) fn changed(&self, alloc: Global, writer: Writer) -> anyhow::Result<Vec<u64>> {
         Ok(self.store.changed(alloc, writer.actor())?)

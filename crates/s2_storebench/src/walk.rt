@@ -1,6 +1,6 @@
 // A walk of two writers through puts, commits, an undo, moves and a cut.
 use crate::bed::{Bed, Pair, Writer};
-use s2_value::{TableRows, Value};
+use s2_value::{Row, TableRows, Value};
 use std::alloc::Global;
 
 /// A step of the walk.
@@ -104,10 +104,25 @@ fn number_at(row: &[Value], place: usize) -> i64 {
     }
 }
 
+fn show_row(rt: &HostRuntime, id: u64, row: &Row) -> anyhow::Result<()> {
+    let row = row.as_slice();
+    print!(rt; " {id}=({}, {})", number_at(row, 0), number_at(row, 1))?;
+    Ok(())
+}
+
 fn show_rows(rt: &HostRuntime, rows: &TableRows) -> anyhow::Result<()> {
     for (id, row) in rows.as_slice() {
-        let row = row.as_slice();
-        print!(rt; " {id}=({}, {})", number_at(row, 0), number_at(row, 1))?;
+        show_row(rt, *id, row)?;
+    }
+    println!(rt;)?;
+    Ok(())
+}
+
+fn show_lent(rt: &HostRuntime, bed: &Bed, actor: u8, r: u64) -> anyhow::Result<()> {
+    print!(rt; "lent to actor {actor} at {r}:")?;
+    let rows = bed.seen_rows(rt.alloc(), actor, r)?;
+    for (id, row) in rows.as_slice() {
+        show_row(rt, *id, row)?;
     }
     println!(rt;)?;
     Ok(())
@@ -183,6 +198,7 @@ fn show_free(rt: &HostRuntime, bed: &Bed) -> anyhow::Result<()> {
 fn show_all(rt: &HostRuntime, bed: &Bed) -> anyhow::Result<()> {
     show_times(rt, bed)?;
     show_at(rt, bed, 1, 8)?;
+    show_lent(rt, bed, 1, 8)?;
     show_keys(rt, bed)
 }
 

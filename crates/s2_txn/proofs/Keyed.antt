@@ -168,9 +168,6 @@ kept_twice pred (p ∷ rows) = go (matches pred p.1) refl (kept_twice pred rows)
     go true e ih = rw e (ap (λ xs. p ∷ xs) ih)
     go false e ih = ih
 
-pub all_match : (s : State) → Good s → (k : ℕ) (pred : Predicate) (rows : Table) → rows ≡ view (history_of s) k → HasMatching pred (view (history_of s) k) rows
-all_match s g k pred rows all = record { rising = ap (rises_above 0) all ∙ view_rises s g k; same = ap (kept pred) all }
-
 pub kept_match : (s : State) → Good s → (k : ℕ) (pred : Predicate) (rows : Table) → rows ≡ kept pred (view (history_of s) k) → HasMatching pred (view (history_of s) k) rows
 kept_match s g k pred rows some = record {
   rising = ap (rises_above 0) some ∙ rises-filter (λ p. matches pred p.1) 0 (view (history_of s) k) (view_rises s g k);

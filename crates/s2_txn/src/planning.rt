@@ -2,10 +2,12 @@
 ghost use Rattle.std.specs.Prelude.{◌≡◌, ◌<◌, ◌+◌, ◌^◌, ◌++◌, None, IfOk, IfSome, OnOk, filter, length, map};
 ghost use Rattle.std.specs.Option.{option_copied};
 ghost use Rattle.s2_model.specs.History.{view};
+ghost use Rattle.s2_model.specs.Answer.{kept};
 ghost use Rattle.s2_model.specs.Predicates.{predicate_of};
 ghost use Rattle.s2_model.specs.Rows.{matches};
 ghost use Rattle.s2_model.specs.Table.{row_at};
 ghost use Rattle.s2_model.specs.Verdict.{puts_from};
+ghost use Rattle.s2_rowstore.specs.Visible.{lent};
 ghost use Rattle.s2_state.specs.States.{history_of};
 ghost use Rattle.s2_state.specs.Good.{Good};
 ghost use Rattle.s2_state.specs.Laws.{read_at};
@@ -36,14 +38,32 @@ fn read_time(s: &State, actor: u8) -> u64
     }
 }
 
-// All rows of the actor's view.
-fn whole_view(s: &State, alloc: Global, actor: u8) -> Result<TableRows, Memory>
+// Copies of the rows that match.
+fn copy_matching(
+    alloc: Global,
+    pred: &Condition,
+    rows: &[(u64, &Row)],
+) -> Result<Vec<(u64, Row)>, Memory>
+    ensures { IfOk result (λ found. found.items ≡ kept pred.now (lent rows.now)) }
+{
+    let mut found = Vec::new(alloc);
+    for (id, row) in rows {
+        if matches(pred, row) {
+            found.push((*id, row.copy()?))?;
+        }
+    }
+    Ok(found)
+}
+
+// The rows of the actor's view that match, by a walk over all.
+fn matching_view(s: &State, alloc: Global, actor: u8, pred: &Condition) -> Result<TableRows, Memory>
     requires actor { actor < 17 }
     requires good { Good s.now }
-    ensures { IfOk result (λ rows. rows ≡ view (history_of s.now) actor) }
+    ensures { IfOk result (λ rows. rows ≡ kept pred.now (view (history_of s.now) actor)) }
 {
-    let seen = s.snapshot(alloc, actor, read_time(s, actor))?;
-    Ok(seen.rows)
+    let seen = s.rows.seen_rows(alloc, actor, read_time(s, actor))?;
+    let rows = copy_matching(alloc, pred, seen.as_slice())?;
+    Ok(Seq::from_vec(rows))
 }
 
 // The value to which the predicate fixes the column, by a comparison alone or under ANDs.
@@ -155,7 +175,7 @@ fn matching_key(
 
 /// Rows by rising number, of which those that match are the rows of the actor's view that match. The actor is 1 to 16.
 ///
-/// Where the predicate fixes each column of a key with `=`, alone or under ANDs, one look-up finds the rows that have it; else they are all rows of the view.
+/// Where the predicate fixes each column of a key with `=`, alone or under ANDs, one look-up finds the rows that have it; else a walk goes over all rows of the view, and copies those that match.
 pub fn candidates(
     s: &State,
     alloc: Global,
@@ -168,7 +188,7 @@ pub fn candidates(
 {
     match find_key(alloc, pred.pred(), &s.schema)? {
         Some((j, key)) => matching_key(s, alloc, actor, pred, j, &key),
-        None => whole_view(s, alloc, actor),
+        None => matching_view(s, alloc, actor, pred),
     }
 }
 
