@@ -138,7 +138,7 @@ pub listed_as : (changed : List (BTreeSet ℕ)) (old new : List (ℕ × Line)) �
 listed_as changed old new same listed j n small e = listed j n small (sym (ap (λ (o : Option Slot). is_some (own j o)) (same n)) ∙ e)
 
 -- the notes serve as long as no row has a key that it hadn't
-pub posted_as : (schema : Schema) (notes : List (BTreeMap (List Value) (BTreeSet ℕ))) (old new : List (ℕ × Line))
+pub posted_as : (schema : Schema) (notes : List (BTreeMap (List Value) (List ℕ))) (old new : List (ℕ × Line))
     → ((places : List ℕ) (q : List Value) (n : ℕ) → body_has places q (body_at new n) ≡ true → body_has places q (body_at old n) ≡ true) → IsPosted schema notes old → IsPosted schema notes new
 posted_as schema notes old new had posted j q n lt e = posted j q n lt (had (places_of schema j) q n e)
 

@@ -1,3 +1,4 @@
+pub mod Alone
 pub mod Cut
 pub mod Ended
 pub mod Found

@@ -5,7 +5,6 @@ use Rattle.std.specs.declared.cmp.Ordering.TheVariants.{Less, Equal, Greater}
 use Rattle.std.specs.Ordering.{is_eq}
 use Rattle.std.specs.Map.{lookup}
 use Rattle.std.specs.BTreeMap.{BTreeMap, is_at}
-use Rattle.std.specs.BTreeSet.{BTreeSet}
 use Rattle.std.proofs.lemmas.Bool.{false≢true}
 use Rattle.s2_value.specs.declared.values.Value.{Value}
 use Rattle.s2_value.specs.Order.{row_cmp, one_row}
@@ -16,7 +15,7 @@ equal_from Less e = absurd (false≢true e)
 equal_from Equal e = refl
 equal_from Greater e = absurd (false≢true e)
 
-pub kept_noted : (old new : List (List Value × BTreeSet ℕ)) (key : List Value) (was : Option (BTreeSet ℕ)) (now : BTreeSet ℕ)
+pub kept_noted : (old new : List (List Value × List ℕ)) (key : List Value) (was : Option (List ℕ)) (now : List ℕ)
     → lookup (is_at (row_cmp key)) old ≡ was
     → ((q : List Value) → lookup (is_at (row_cmp q)) new ≡ cond (is_at (row_cmp key) q) (Some now) (lookup (is_at (row_cmp q)) old))
     → ((n : ℕ) → has_id n was ≡ true → has_id n (Some now) ≡ true)
@@ -29,11 +28,11 @@ kept_noted old new key was now found updates kept q n h = go (is_at (row_cmp key
       ∙ kept n (ap (has_id n) (sym found ∙ ap (λ k. lookup (is_at (row_cmp k)) old) same) ∙ h)
   go false e = ap (has_id n) (updates q ∙ ap (λ b. cond b (Some now) (lookup (is_at (row_cmp q)) old)) e) ∙ h
 
-pub none_noted : (now : Option (BTreeSet ℕ)) (n : ℕ) → has_id n None ≡ true → has_id n now ≡ true
+pub none_noted : (now : Option (List ℕ)) (n : ℕ) → has_id n None ≡ true → has_id n now ≡ true
 none_noted now n e = absurd (false≢true e)
 
 -- one of the lists has more
-pub kept_at : (xs : List (BTreeMap (List Value) (BTreeSet ℕ))) (j : ℕ) (m d : BTreeMap (List Value) (BTreeSet ℕ)) → j < length xs
+pub kept_at : (xs : List (BTreeMap (List Value) (List ℕ))) (j : ℕ) (m d : BTreeMap (List Value) (List ℕ)) → j < length xs
     → ((q : List Value) (n : ℕ) → is_noted (slice_index_or xs j d).entries q n ≡ true → is_noted m.entries q n ≡ true)
     → KeepsNotes xs (slice_set xs j m)
 kept_at [] j m d lt h i q n e = e
@@ -42,7 +41,7 @@ kept_at (x ∷ xs) zero m d lt h (suc i) q n e = e
 kept_at (x ∷ xs) (suc j) m d lt h zero q n e = e
 kept_at (x ∷ xs) (suc j) m d lt h (suc i) q n e = kept_at xs j m d (omega arith) h i q n e
 
-pub noted_set : (xs : List (BTreeMap (List Value) (BTreeSet ℕ))) (j : ℕ) (m : BTreeMap (List Value) (BTreeSet ℕ)) → j < length xs
+pub noted_set : (xs : List (BTreeMap (List Value) (List ℕ))) (j : ℕ) (m : BTreeMap (List Value) (List ℕ)) → j < length xs
     → (q : List Value) (n : ℕ) → noted_at (slice_set xs j m) j q n ≡ is_noted m.entries q n
 noted_set [] j m lt q n = absurd (omega arith)
 noted_set (x ∷ xs) zero m lt q n = refl

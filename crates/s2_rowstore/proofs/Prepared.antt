@@ -2,7 +2,6 @@
 use Rattle.std.proofs.Common.{◌≡◌, ◌∙◌, refl, sym, ap, subst, ℕ, ◌<◌, ◌≤◌, Bool, true, false, ◌||◌, ◌&&◌, ◌==◌, List, [], ◌∷◌, Option, None, Some, length, slice_index_or, All, arith, eqb-true, if◌then◌else◌}
 use Rattle.std.specs.List.{list_any}
 use Rattle.std.specs.BTreeMap.{BTreeMap, is_at}
-use Rattle.std.specs.BTreeSet.{BTreeSet}
 use Rattle.std.specs.Ordering.{nat_cmp}
 use Rattle.std.specs.Cmp.{nat_eq_equiv, unsigned_ties}
 use Rattle.std.proofs.lemmas.Bool.{lt-ltb}
@@ -20,14 +19,14 @@ names_any n [] = refl
 names_any n (id ∷ ids) =
     ap (λ a. a || list_any (is_at (nat_cmp n)) ids) (sym (unsigned_ties n id) ∙ nat_eq_equiv.symm n id) ∙ ap (λ a. (id == n) || a) (names_any n ids)
 
-pub ready_stays : (schema : Schema) (notes notes' : List (BTreeMap (List Value) (BTreeSet ℕ))) (lines lines' : List (ℕ × Line)) (p : ℕ × List Value)
+pub ready_stays : (schema : Schema) (notes notes' : List (BTreeMap (List Value) (List ℕ))) (lines lines' : List (ℕ × Line)) (p : ℕ × List Value)
     → KeepsNotes notes notes' → KeepsRoom lines lines' → IsReady schema notes lines p → IsReady schema notes' lines' p
 ready_stays schema notes notes' lines lines' p k r ready = record {
   room = (let a : 1 < (line_at lines p.0).room = ready.room in let b : (line_at lines p.0).room ≤ (line_at lines' p.0).room = r p.0 in omega arith);
   noted = λ j lt. k j _ _ (ready.noted j lt);
 }
 
-pub change_stays : (schema : Schema) (notes notes' : List (BTreeMap (List Value) (BTreeSet ℕ))) (lines lines' : List (ℕ × Line)) (ids ids' : List ℕ) (p : ℕ × Option (List Value))
+pub change_stays : (schema : Schema) (notes notes' : List (BTreeMap (List Value) (List ℕ))) (lines lines' : List (ℕ × Line)) (ids ids' : List ℕ) (p : ℕ × Option (List Value))
     → KeepsNotes notes notes' → KeepsRoom lines lines' → ((n : ℕ) → names_row ids n ≡ true → names_row ids' n ≡ true) → IsReadyChange schema notes lines ids p → IsReadyChange schema notes' lines' ids' p
 change_stays schema notes notes' lines lines' ids ids' p k r i ready = record {
   room = (let a : 0 < (line_at lines p.0).room = ready.room in let b : (line_at lines p.0).room ≤ (line_at lines' p.0).room = r p.0 in omega arith);
@@ -65,10 +64,10 @@ same_default xs i x d lt e = e ∙ within xs i x d lt where
 pub above_none : (m : ℕ) → 1 < m → 0 < m
 above_none m lt = omega arith
 
-pub ready_rooms : (schema : Schema) (notes : List (BTreeMap (List Value) (BTreeSet ℕ))) (lines : List (ℕ × Line)) (rows : List (ℕ × List Value))
+pub ready_rooms : (schema : Schema) (notes : List (BTreeMap (List Value) (List ℕ))) (lines : List (ℕ × Line)) (rows : List (ℕ × List Value))
     → All (IsReady schema notes lines) rows → All (λ p. 1 < (line_at lines p.0).room) rows
 ready_rooms schema notes lines rows all k d lt = (all k d lt).room
 
-pub change_rooms : (schema : Schema) (notes : List (BTreeMap (List Value) (BTreeSet ℕ))) (lines : List (ℕ × Line)) (ids : List ℕ) (changes : List (ℕ × Option (List Value)))
+pub change_rooms : (schema : Schema) (notes : List (BTreeMap (List Value) (List ℕ))) (lines : List (ℕ × Line)) (ids : List ℕ) (changes : List (ℕ × Option (List Value)))
     → All (IsReadyChange schema notes lines ids) changes → All (λ p. 0 < (line_at lines p.0).room) changes
 change_rooms schema notes lines ids changes all k d lt = (all k d lt).room

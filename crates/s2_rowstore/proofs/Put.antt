@@ -63,18 +63,18 @@ has_slotted places q k (Some (Some row)) b e = split (either_or _ _ e) where
   split (inr h) = inr (row, refl, h)
 
 -- the note of a row's key, for a key that the row has
-noted_key : (schema : Schema) (notes : List (BTreeMap (List Value) (BTreeSet ℕ))) (n j : ℕ) (q row : List Value) → j < length (keys_of schema) → IsNotedRow schema notes n row → row_has (places_of schema j) q row ≡ true → noted_at notes j q n ≡ true
+noted_key : (schema : Schema) (notes : List (BTreeMap (List Value) (List ℕ))) (n j : ℕ) (q row : List Value) → j < length (keys_of schema) → IsNotedRow schema notes n row → row_has (places_of schema j) q row ≡ true → noted_at notes j q n ≡ true
 noted_key schema notes n j q row lt noted has =
     let Q : List Value → Type 0 = λ k. noted_at notes j k n ≡ true in
     subst Q (same_row (key schema j row) q has) (noted j lt)
 
-pub posted_more : (schema : Schema) (notes notes' : List (BTreeMap (List Value) (BTreeSet ℕ))) (old new : List (ℕ × Line))
+pub posted_more : (schema : Schema) (notes notes' : List (BTreeMap (List Value) (List ℕ))) (old new : List (ℕ × Line))
     → SameBodies old new → KeepsNotes notes notes' → IsPosted schema notes old → IsPosted schema notes' new
 posted_more schema notes notes' old new same kept posted j q n lt e =
     let F : Body → Bool = λ b. body_has (places_of schema j) q b in
     kept j q n (posted j q n lt (sym (ap F (same n)) ∙ e))
 
-pub posted_begun : (schema : Schema) (notes : List (BTreeMap (List Value) (BTreeSet ℕ))) (old new : List (ℕ × Line)) (t : ℕ) (rows : List (ℕ × List Value))
+pub posted_begun : (schema : Schema) (notes : List (BTreeMap (List Value) (List ℕ))) (old new : List (ℕ × Line)) (t : ℕ) (rows : List (ℕ × List Value))
     → ((n : ℕ) → body_at new n ≡ with_begun t (for_row rows n) (body_at old n)) → All (IsReady schema notes old) rows → IsPosted schema notes old → IsPosted schema notes new
 posted_begun schema notes old new t rows same ready posted j q n lt e = split (has_begun (places_of schema j) q t (for_row rows n) (body_at old n) (sym (ap F (same n)) ∙ e)) where
   F : Body → Bool
@@ -84,7 +84,7 @@ posted_begun schema notes old new t rows same ready posted j q n lt e = split (h
   split (inl h) = posted j q n lt h
   split (inr h) = noted_key schema notes n j q h.0 lt (at_row (IsReady schema notes old) rows ready n h.0 h.1).noted h.2
 
-pub posted_put : (schema : Schema) (notes : List (BTreeMap (List Value) (BTreeSet ℕ))) (old new : List (ℕ × Line)) (ids : List ℕ) (k : ℕ) (changes : List (ℕ × Option (List Value)))
+pub posted_put : (schema : Schema) (notes : List (BTreeMap (List Value) (List ℕ))) (old new : List (ℕ × Line)) (ids : List ℕ) (k : ℕ) (changes : List (ℕ × Option (List Value)))
     → ((n : ℕ) → body_at new n ≡ with_slot k (for_row changes n) (body_at old n)) → All (IsReadyChange schema notes old ids) changes → IsPosted schema notes old → IsPosted schema notes new
 posted_put schema notes old new ids k changes same ready posted j q n lt e = split (has_slotted (places_of schema j) q k (for_row changes n) (body_at old n) (sym (ap F (same n)) ∙ e)) where
   F : Body → Bool
@@ -128,7 +128,7 @@ listed_more changed k s s' old new lt all is more same listed j n small e =
     let F : Body → Bool = λ b. is_some (own j b.1) in
     names_in changed k j n s s' lt all is (more n) (listed j n small (sym (ap F (same n)) ∙ e))
 
-pub listed_put : (changed : List (BTreeSet ℕ)) (k : ℕ) (s s' : BTreeSet ℕ) (schema : Schema) (notes : List (BTreeMap (List Value) (BTreeSet ℕ))) (old new : List (ℕ × Line)) (changes : List (ℕ × Option (List Value)))
+pub listed_put : (changed : List (BTreeSet ℕ)) (k : ℕ) (s s' : BTreeSet ℕ) (schema : Schema) (notes : List (BTreeMap (List Value) (List ℕ))) (old new : List (ℕ × Line)) (changes : List (ℕ × Option (List Value)))
     → k < 17 → length changed ≡ 17 → s ≡ slice_index_or changed k s → ((n : ℕ) → names_row s.keys n ≡ true → names_row s'.keys n ≡ true)
     → ((n : ℕ) → body_at new n ≡ with_slot k (for_row changes n) (body_at old n)) → All (IsReadyChange schema notes old s'.keys) changes → IsListed changed old → IsListed (slice_set changed k s') new
 listed_put changed k s s' schema notes old new changes lt all is more same ready listed j n small e =

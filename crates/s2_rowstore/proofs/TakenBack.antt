@@ -3,7 +3,6 @@ use Rattle.std.proofs.Common.{◌≡◌, ◌∙◌, refl, sym, ap, ℕ, ◌<◌,
 use Rattle.std.specs.List.{list_any}
 use Rattle.std.specs.Map.{lookup}
 use Rattle.std.specs.BTreeMap.{BTreeMap, is_at}
-use Rattle.std.specs.BTreeSet.{BTreeSet}
 use Rattle.std.specs.Cmp.{nat_eq_equiv}
 use Rattle.std.proofs.lemmas.Bool.{false≢true}
 use Rattle.s2_value.specs.declared.values.Value.{Value}
@@ -19,7 +18,7 @@ use Rattle.s2_rowstore.proofs.Kept.{has_undone}
 use Rattle.s2_rowstore.proofs.Steps.{both, none_from, pair_done}
 
 -- ---- one number at one key
-pub others_noted : (old new : List (List Value × BTreeSet ℕ)) (key : List Value) (id : ℕ) (was now : BTreeSet ℕ)
+pub others_noted : (old new : List (List Value × List ℕ)) (key : List Value) (id : ℕ) (was now : List ℕ)
     → lookup (is_at (row_cmp key)) old ≡ Some was
     → ((q : List Value) → lookup (is_at (row_cmp q)) new ≡ cond (is_at (row_cmp key) q) (Some now) (lookup (is_at (row_cmp q)) old))
     → ((n : ℕ) → has_id n (Some was) ≡ true → (id == n) ≡ false → has_id n (Some now) ≡ true)
@@ -39,19 +38,20 @@ others_noted old new key id was now found updates kept q n h other = go (is_at (
       let had : has_id n (Some was) ≡ true = ap (has_id n) (sym found ∙ ap (λ k. lookup (is_at (row_cmp k)) old) same) ∙ h in
       at true e ∙ kept n had (elsewhere e (id == n) refl)
 
--- the entry of a key without numbers goes
-pub gone_noted : (old new : List (List Value × BTreeSet ℕ)) (key : List Value)
-    → ((q : List Value) → lookup (is_at (row_cmp q)) new ≡ cond (is_at (row_cmp key) q) None (lookup (is_at (row_cmp q)) old))
-    → ((n : ℕ) → is_noted old key n ≡ false) → (q : List Value) (n : ℕ) → is_noted old q n ≡ true → is_noted new q n ≡ true
-gone_noted old new key updates none q n h = go (is_at (row_cmp key) q) refl where
+-- the entry of a key goes for which at most this number is left
+pub gone_noted : (old mid new : List (List Value × List ℕ)) (key : List Value) (id : ℕ)
+    → ((q : List Value) → lookup (is_at (row_cmp q)) new ≡ cond (is_at (row_cmp key) q) None (lookup (is_at (row_cmp q)) mid))
+    → ((n : ℕ) → is_noted mid key n ≡ true → (id == n) ≡ true) → KeepsOthers key id old mid → KeepsOthers key id old new
+gone_noted old mid new key id updates none kept q n h other = go (is_at (row_cmp key) q) refl where
   go : (b : Bool) → is_at (row_cmp key) q ≡ b → is_noted new q n ≡ true
-  go false e = ap (has_id n) (updates q ∙ ap (λ b. cond b None (lookup (is_at (row_cmp q)) old)) e) ∙ h
+  go false e = ap (has_id n) (updates q ∙ ap (λ b. cond b None (lookup (is_at (row_cmp q)) mid)) e) ∙ kept q n h other
   go true e =
       let same : key ≡ q = one_row key q (equal_from (row_cmp key q) e) in
-      absurd (false≢true (sym (none n) ∙ ap (λ k. is_noted old k n) same ∙ h))
+      let here : is_noted mid key n ≡ true = ap (λ k. is_noted mid k n) same ∙ kept q n h other in
+      absurd (false≢true (sym (other (none n here)) ∙ e))
 
 -- the same in one of the lists of all keys
-pub others_at : (xs : List (BTreeMap (List Value) (BTreeSet ℕ))) (j : ℕ) (m d : BTreeMap (List Value) (BTreeSet ℕ)) (key : List Value) (id : ℕ) → j < length xs
+pub others_at : (xs : List (BTreeMap (List Value) (List ℕ))) (j : ℕ) (m d : BTreeMap (List Value) (List ℕ)) (key : List Value) (id : ℕ) → j < length xs
     → KeepsOthers key id (slice_index_or xs j d).entries m.entries
     → (i : ℕ) (q : List Value) (n : ℕ) → noted_at xs i q n ≡ true → (i ≡ j → (id == n) ≡ true → is_at (row_cmp key) q ≡ false) → noted_at (slice_set xs j m) i q n ≡ true
 others_at [] j m d key id lt h i q n e o = e
@@ -88,17 +88,17 @@ any_kept_has p h (v ∷ vs) = go (not (is_done h v.stop)) (any_kept_has p h vs) 
   go false ih = ih
 
 -- ---- all rows
-pub posted_had : (schema : Schema) (old new : List (BTreeMap (List Value) (BTreeSet ℕ))) (lines : List (ℕ × Line)) → KeepsHad schema (body_at lines) old new → IsPosted schema old lines → IsPosted schema new lines
+pub posted_had : (schema : Schema) (old new : List (BTreeMap (List Value) (List ℕ))) (lines : List (ℕ × Line)) → KeepsHad schema (body_at lines) old new → IsPosted schema old lines → IsPosted schema new lines
 posted_had schema old new lines keeps posted j q n lt has = keeps j q n lt (posted j q n lt has) has
 
 -- one row after others
-pub had_more : (schema : Schema) (B : ℕ → Body) (id : ℕ) (b : Body) (old cur new : List (BTreeMap (List Value) (BTreeSet ℕ)))
+pub had_more : (schema : Schema) (B : ℕ → Body) (id : ℕ) (b : Body) (old cur new : List (BTreeMap (List Value) (List ℕ)))
     → ((places : List ℕ) (q : List Value) → body_has places q (B id) ≡ true → body_has places q b ≡ true)
     → KeepsHad schema B old cur → KeepsBut schema id b cur new → KeepsHad schema B old new
 had_more schema B id b old cur new still had but j q n lt was has =
     but j q n lt (had j q n lt was has) (λ here. still (places_of schema j) q (ap (λ m. body_has (places_of schema j) q (B m)) (eqb-true id n here) ∙ has))
 
-pub had_as : (schema : Schema) (B C : ℕ → Body) (old new : List (BTreeMap (List Value) (BTreeSet ℕ))) → ((n : ℕ) → C n ≡ B n) → KeepsHad schema B old new → KeepsHad schema C old new
+pub had_as : (schema : Schema) (B C : ℕ → Body) (old new : List (BTreeMap (List Value) (List ℕ))) → ((n : ℕ) → C n ≡ B n) → KeepsHad schema B old new → KeepsHad schema C old new
 had_as schema B C old new same had j q n lt was has = had j q n lt was (sym (ap (body_has (places_of schema j) q) (same n)) ∙ has)
 
 has_same : (places : List ℕ) (q : List Value) (a b : Body) → a ≡ b → body_has places q a ≡ true → body_has places q b ≡ true
@@ -113,14 +113,14 @@ cut_there h id cur next first step inv places q has =
     has_same places q _ _ (sym (step id ∙ ap (λ b. if b then cut_body h (body_at cur id) else body_at cur id) (nat_eq_equiv.refl id) ∙ inv id)) has
 
 -- the notes of versions that are to go are taken back
-pub done_more : (schema : Schema) (h id : ℕ) (first cur : List (ℕ × Line)) (old mid new : List (BTreeMap (List Value) (BTreeSet ℕ)))
+pub done_more : (schema : Schema) (h id : ℕ) (first cur : List (ℕ × Line)) (old mid new : List (BTreeMap (List Value) (List ℕ)))
     → ((n : ℕ) → cut_body h (body_at cur n) ≡ cut_body h (body_at first n)) → KeepsHad schema (λ n. cut_body h (body_at first n)) old mid
     → KeepsBut schema id (cut_body h (body_at cur id)) mid new → KeepsHad schema (λ n. cut_body h (body_at first n)) old new
 done_more schema h id first cur old mid new same had but =
     had_more schema (λ n. cut_body h (body_at first n)) id (cut_body h (body_at cur id)) old mid new (λ places q has. has_same places q _ _ (sym (same id)) has) had but
 
 -- an open write of one row is forgotten
-pub undo_more : (schema : Schema) (k id : ℕ) (cur next : List (ℕ × Line)) (old mid new : List (BTreeMap (List Value) (BTreeSet ℕ)))
+pub undo_more : (schema : Schema) (k id : ℕ) (cur next : List (ℕ × Line)) (old mid new : List (BTreeMap (List Value) (List ℕ)))
     → KeepsHad schema (body_at cur) old mid → ((n : ℕ) → body_at next n ≡ (if id == n then undone k (body_at cur n) else body_at cur n))
     → KeepsBut schema id (body_at next id) mid new → KeepsHad schema (body_at next) old new
 undo_more schema k id cur next old mid new had step but j q n lt was has =
@@ -139,7 +139,7 @@ put_there apply nothing id rest next B alone inv places q has =
 pub alone_first : {X : Type 0} (p : ℕ × X) (rest items : List (ℕ × X)) → items ≡ p ∷ rest → are_apart items ≡ true → for_row rest p.0 ≡ None
 alone_first {X} p rest items e apart = none_from _ (both _ _ (sym (ap (λ (xs : List (ℕ × X)). are_apart xs) e) ∙ apart)).0
 
-pub put_more : (schema : Schema) (k id : ℕ) (c : Option (List Value)) (rest items : List (ℕ × Option (List Value))) (cur next : List (ℕ × Line)) (B : ℕ → Body) (old mid new : List (BTreeMap (List Value) (BTreeSet ℕ)))
+pub put_more : (schema : Schema) (k id : ℕ) (c : Option (List Value)) (rest items : List (ℕ × Option (List Value))) (cur next : List (ℕ × Line)) (B : ℕ → Body) (old mid new : List (BTreeMap (List Value) (List ℕ)))
     → KeepsHad schema B old mid → items ≡ (id, c) ∷ rest → are_apart items ≡ true
     → ((n : ℕ) → body_at next n ≡ (if id == n then ((body_at cur n).0, Some (record { holder = k; change = c })) else body_at cur n))
     → ((n : ℕ) → with_slot k (for_row items n) (body_at cur n) ≡ B n)

@@ -1,5 +1,6 @@
 pub mod Chains
 pub mod Ends
+pub mod Ids
 pub mod Keys
 pub mod Lines
 pub mod Prepared

@@ -40,14 +40,14 @@ unfoldable pub can_take : Store → ℕ → ℕ → ℕ → Bool
 can_take S from r n = nat_lt from n && is_free r (body_at S.lines n)
 
 -- each key of a version or an open write is noted
-abbrev pub IsPosted : Schema → List (BTreeMap (List Value) (BTreeSet ℕ)) → List (ℕ × Line) → Type 0
+abbrev pub IsPosted : Schema → List (BTreeMap (List Value) (List ℕ)) → List (ℕ × Line) → Type 0
 IsPosted schema notes lines = (j : ℕ) (q : List Value) (n : ℕ) → j < length (keys_of schema) → body_has (places_of schema j) q (body_at lines n) ≡ true → noted_at notes j q n ≡ true
 
 -- each row with an open write is among its holder's
 abbrev pub IsListed : List (BTreeSet ℕ) → List (ℕ × Line) → Type 0
 IsListed changed lines = (k n : ℕ) → k < 17 → is_some (own k (body_at lines n).1) ≡ true → names_row (ids_of changed k) n ≡ true
 
-pub record IsKept (schema : Schema) (notes : List (BTreeMap (List Value) (BTreeSet ℕ))) (changed : List (BTreeSet ℕ)) (ids : List ℕ) (E : Ends) (lines : List (ℕ × Line)) : Type 0 where
+pub record IsKept (schema : Schema) (notes : List (BTreeMap (List Value) (List ℕ))) (changed : List (BTreeSet ℕ)) (ids : List ℕ) (E : Ends) (lines : List (ℕ × Line)) : Type 0 where
   pub keys : length notes ≡ length (keys_of schema)
   pub actors : length changed ≡ 17
   pub posted : IsPosted schema notes lines
@@ -72,11 +72,11 @@ slot_put k None slot = slot
 slot_put k (Some change) slot = Some (record { holder = k; change = change })
 
 -- what was noted is noted still, but for keys of this row that its body hasn't
-abbrev pub KeepsBut : Schema → ℕ → Body → List (BTreeMap (List Value) (BTreeSet ℕ)) → List (BTreeMap (List Value) (BTreeSet ℕ)) → Type 0
+abbrev pub KeepsBut : Schema → ℕ → Body → List (BTreeMap (List Value) (List ℕ)) → List (BTreeMap (List Value) (List ℕ)) → Type 0
 KeepsBut schema id b old new = (j : ℕ) (q : List Value) (n : ℕ) → j < length (keys_of schema) → noted_at old j q n ≡ true
     → ((id == n) ≡ true → body_has (places_of schema j) q b ≡ true) → noted_at new j q n ≡ true
 
 -- what was noted of keys that the rows' bodies have is noted still
-abbrev pub KeepsHad : Schema → (ℕ → Body) → List (BTreeMap (List Value) (BTreeSet ℕ)) → List (BTreeMap (List Value) (BTreeSet ℕ)) → Type 0
+abbrev pub KeepsHad : Schema → (ℕ → Body) → List (BTreeMap (List Value) (List ℕ)) → List (BTreeMap (List Value) (List ℕ)) → Type 0
 KeepsHad schema B old new = (j : ℕ) (q : List Value) (n : ℕ) → j < length (keys_of schema) → noted_at old j q n ≡ true
     → body_has (places_of schema j) q (B n) ≡ true → noted_at new j q n ≡ true

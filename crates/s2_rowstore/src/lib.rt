@@ -4,6 +4,7 @@
 mod chain;
 mod copies;
 mod ends;
+mod ids;
 mod laws;
 mod lines;
 mod notes;

@@ -1,5 +1,5 @@
 // The lines of all rows, by row number.
-ghost use Rattle.std.specs.Prelude.{◌≡◌, ◌<◌, ◌≤◌, ℕ, ◌++◌, ◌-◌, [], None, Some, OnOk, OnErr, is_some, not, false, true, vec_len, length, ◌==◌, if◌then◌else◌};
+ghost use Rattle.std.specs.Prelude.{◌≡◌, ◌<◌, ◌≤◌, ℕ, ◌++◌, ◌-◌, ◌∷◌, [], None, Some, OnOk, OnErr, is_some, not, false, true, vec_len, length, ◌==◌, if◌then◌else◌};
 ghost use Rattle.std.specs.Option.{option_copied, option_map};
 ghost use Rattle.s2_rowstore.specs.Chains.{body, is_empty_body, own, seen, living_since, ended, begun, kept};
 ghost use Rattle.std.specs.Prelude.{IfOk, IfSome};
@@ -15,6 +15,7 @@ ghost use Rattle.s2_value.specs.Schemas.{keys_of};
 
 use crate::chain::{Chain, Slot};
 use crate::ends::Ends;
+use crate::ids::{Held, Ids};
 use crate::notes::Notes;
 use crate::unnoted::{cut_noted, put_noted, undo_noted, unnote_all_done};
 use s2_value::{Duplicate, Memory, Row, Schema, Seq, TableRows, Value};
@@ -255,8 +256,8 @@ fn row_has_key(lines: &Lines, id: u64, places: &[u8], key: &[Value]) -> bool
     }
 }
 
-/// Those of the rows of which some version or open write has the key at these places.
-pub(crate) fn rows_with_key(
+// Those of the rows of which some version or open write has the key at these places.
+fn many_with_key(
     lines: &Lines,
     alloc: Global,
     ids: &BTreeSet<u64>,
@@ -273,6 +274,40 @@ pub(crate) fn rows_with_key(
         }
     }
     Ok(found)
+}
+
+// The same for one row.
+fn one_with_key(
+    lines: &Lines,
+    alloc: Global,
+    id: u64,
+    places: &[u8],
+    key: &[Value],
+) -> Result<Vec<u64>, Memory>
+    ensures { IfOk result (λ found. found.items ≡ filter (λ n. body_has places.now key.now (body_at lines.now.entries n)) (id ∷ [])) }
+{
+    let mut found = Vec::new(alloc);
+    if row_has_key(lines, id, places, key) {
+        found.push(id)?;
+    }
+    Ok(found)
+}
+
+/// Those of the rows noted for a key of which some version or open write has it at these places.
+pub(crate) fn rows_with_key(
+    lines: &Lines,
+    alloc: Global,
+    ids: &Ids,
+    places: &[u8],
+    key: &[Value],
+) -> Result<Vec<u64>, Memory>
+    ensures rows { IfOk result (λ found. found.items ≡ filter (λ n. body_has places.now key.now (body_at lines.now.entries n)) ids.now) }
+    ensures ordered { IsStrictlySortedBy nat_cmp ids.now }
+{
+    match ids.held() {
+        Held::One(id) => one_with_key(lines, alloc, *id, places, key),
+        Held::Many(ids) => many_with_key(lines, alloc, ids, places, key),
+    }
 }
 
 // The first row that isn't below `from`.

@@ -1,26 +1,18 @@
 // Row numbers noted by the keys of their rows.
-ghost use Rattle.std.specs.Prelude.{◌≡◌, ◌<◌, ◌==◌, ℕ, true, false, [], OnOk, Some, List, slice_index_or, vec_len, length, pos};
+ghost use Rattle.std.specs.Prelude.{◌≡◌, ◌<◌, ◌==◌, ℕ, true, OnOk, List, slice_index_or, length, pos};
 ghost use Rattle.s2_value.specs.declared.values.Value.{Value as AnyValue};
 ghost use Rattle.s2_value.specs.declared.values.Value.TheVariants.{Int};
 ghost use Rattle.s2_value.specs.Order.{value_eq};
-ghost use Rattle.s2_rowstore.specs.Keys.{has_id, is_noted, row_has, noted_at, IsNotedRow, KeepsNotes, KeepsOthers};
+ghost use Rattle.s2_rowstore.specs.Keys.{is_noted, row_has, noted_at, IsNotedRow, KeepsNotes, KeepsOthers};
 ghost use Rattle.s2_value.specs.Schemas.{keys_of, fits};
 
+use crate::ids::Ids;
 use s2_value::{Key, Memory, Row, Schema, Value};
 use std::alloc::Global;
-use std::collections::{BTreeMap, BTreeSet};
+use std::collections::BTreeMap;
 
 /// The row numbers noted for each key.
-pub(crate) type Notes = BTreeMap<Key, BTreeSet<u64>>;
-
-/// Puts the row number into the set.
-pub(crate) fn put_id(ids: &mut BTreeSet<u64>, id: u64) -> Result<(), Memory>
-    ensures kept { (n : ℕ) → has_id n (Some ids.old) ≡ true → has_id n (Some ids.new) ≡ true }
-    ensures added { OnOk result (has_id id (Some ids.new) ≡ true) }
-{
-    ids.insert(id)?;
-    Ok(())
-}
+pub(crate) type Notes = BTreeMap<Key, Ids>;
 
 /// Notes the row number for the key.
 pub(crate) fn note(notes: &mut Notes, alloc: Global, key: Key, id: u64) -> Result<(), Memory>
@@ -28,11 +20,9 @@ pub(crate) fn note(notes: &mut Notes, alloc: Global, key: Key, id: u64) -> Resul
     ensures added { OnOk result (is_noted notes.new.entries key id ≡ true) }
 {
     if let Some(ids) = notes.get_mut(&key) {
-        return put_id(ids, id);
+        return ids.insert(alloc, id);
     }
-    let mut ids = BTreeSet::new(alloc);
-    put_id(&mut ids, id)?;
-    notes.insert(key, ids)?;
+    notes.insert(key, Ids::one(id))?;
     Ok(())
 }
 
@@ -65,32 +55,15 @@ pub(crate) fn note_row(
     Ok(())
 }
 
-// Takes the row number out of the set, and answers whether none is left.
-fn drop_id(ids: &mut BTreeSet<u64>, id: u64) -> bool
-    ensures kept { (n : ℕ) → has_id n (Some ids.old) ≡ true → (id == n) ≡ false → has_id n (Some ids.new) ≡ true }
-    ensures none { result ≡ true → ids.new.keys ≡ [] }
-{
-    let _ = ids.remove(&id);
-    ids.is_empty()
-}
-
-// Takes the row number out of those of the key, and answers whether none is left.
+// Takes the row number out of those of the key, and answers whether no other is left.
 fn drop_noted(notes: &mut Notes, key: &Key, id: u64) -> bool
     ensures kept { KeepsOthers key.now id notes.old.entries notes.new.entries }
-    ensures none { result ≡ true → (n : ℕ) → is_noted notes.new.entries key.now n ≡ false }
+    ensures none { result ≡ true → (n : ℕ) → is_noted notes.new.entries key.now n ≡ true → (id == n) ≡ true }
 {
     match notes.get_mut(key) {
-        Some(ids) => drop_id(ids, id),
+        Some(ids) => ids.remove(id),
         None => false,
     }
-}
-
-// Takes the key out, for which no row number is noted.
-fn drop_key(notes: &mut Notes, key: &Key)
-    requires { (n : ℕ) → is_noted notes.old.entries key.now n ≡ false }
-    ensures { (q : List AnyValue) (n : ℕ) → is_noted notes.old.entries q n ≡ true → is_noted notes.new.entries q n ≡ true }
-{
-    let _ = notes.remove(key);
 }
 
 /// Takes back the note of the row number for the key.
@@ -98,7 +71,7 @@ pub(crate) fn unnote(notes: &mut Notes, key: &Key, id: u64)
     ensures { KeepsOthers key.now id notes.old.entries notes.new.entries }
 {
     if drop_noted(notes, key, id) {
-        drop_key(notes, key);
+        let _ = notes.remove(key);
     }
 }
 

@@ -8,8 +8,8 @@ ghost use Rattle.s2_rowstore.specs.Lines.{body_at, names_row};
 ghost use Rattle.s2_rowstore.specs.Present.{is_present, is_free, ArePresent};
 
 use crate::ends::Ends;
+use crate::ids::put_id;
 use crate::lines::Lines;
-use crate::notes::put_id;
 use s2_value::Memory;
 use std::alloc::Global;
 use std::collections::BTreeSet;

@@ -4,7 +4,7 @@ use Rattle.s2_rowstore.proofs.notes.drop_noted.Goals as goal
 
 pub returns-in-Some-clause-kept : goal.returns-in-Some-clause-kept
 returns-in-Some-clause-kept c =
-    let w = c.drop_id.new.ids in
+    let w = c.remove.new.self in
     let found = sym c.in-Some.ensures.value in
     others_noted c.args.notes.now.entries (c.get_mut.follows.lender w).entries c.args.key.now c.args.id c.in-Some.ids.now w found
-    ((c.get_mut.follows.holds w).3 (ap is_some found)).0 c.drop_id.ensures.kept
+    ((c.get_mut.follows.holds w).3 (ap is_some found)).0 c.remove.ensures.kept

@@ -1,6 +1,5 @@
 use Rattle.std.proofs.Common.{◌∙◌, ℕ, List, sym, ap, subst, rules, Option}
 use Rattle.std.specs.BTreeMap.{BTreeMap}
-use Rattle.std.specs.BTreeSet.{BTreeSet}
 use Rattle.std.proofs.lemmas.List.{take_at}
 use Rattle.s2_value.specs.declared.values.Value.{Value}
 use Rattle.s2_rowstore.specs.declared.chain.Slot.{Slot}
@@ -20,8 +19,8 @@ invariant_of-self c =
     let old = c.self.inside.lines.entries in
     let new = c.cut_rows.new.lines.entries in
     let notes = c.cut_rows.new.notes in
-    let P : List (BTreeMap (List Value) (BTreeSet ℕ)) → Type 0 = λ ns. IsKept schema ns c.self.inside.changed.items c.self.inside.present.keys c.cut_rows.new.ends new in
-    let K : List (BTreeMap (List Value) (BTreeSet ℕ)) → Type 0 = λ ns. KeepsHad schema (body_at new) ns notes in
+    let P : List (BTreeMap (List Value) (List ℕ)) → Type 0 = λ ns. IsKept schema ns c.self.inside.changed.items c.self.inside.present.keys c.cut_rows.new.ends new in
+    let K : List (BTreeMap (List Value) (List ℕ)) → Type 0 = λ ns. KeepsHad schema (body_at new) ns notes in
     let had = subst K c.as_mut_slice-notes.ensures.value c.cut_rows.ensures.notes in
     let kept : P notes = record {
       keys = search rules;

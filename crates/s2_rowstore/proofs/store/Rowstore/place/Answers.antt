@@ -1,6 +1,5 @@
 use Rattle.std.proofs.Common.{◌≡◌, ℕ, List, All, true, sym, subst, rules}
 use Rattle.std.specs.BTreeMap.{BTreeMap}
-use Rattle.std.specs.BTreeSet.{BTreeSet}
 use Rattle.std.proofs.lemmas.List.{take_at}
 use Rattle.s2_value.specs.declared.values.Value.{Value}
 use Rattle.s2_rowstore.specs.Lines.{names_row}
@@ -26,8 +25,8 @@ invariant_of-self-2 c =
     let new = c.begin_all.new.lines.entries in
     let notes = c.ready_rows.new.notes in
     let present = c.list_rows.new.ids.keys in
-    let P : List (BTreeMap (List Value) (BTreeSet ℕ)) → Type 0 = λ ns. IsKept schema ns c.self.inside.changed.items present c.list_rows.new.ends new in
-    let K : List (BTreeMap (List Value) (BTreeSet ℕ)) → Type 0 = λ ns. KeepsNotes ns notes in
+    let P : List (BTreeMap (List Value) (List ℕ)) → Type 0 = λ ns. IsKept schema ns c.self.inside.changed.items present c.list_rows.new.ends new in
+    let K : List (BTreeMap (List Value) (List ℕ)) → Type 0 = λ ns. KeepsNotes ns notes in
     let Q : List (ℕ × List Value) → Type 0 = λ rows. All (IsReady schema notes mid) rows in
     let ready = subst Q c.as_slice-2.ensures.value c.in_ok-ready_rows.ensures.ready in
     let N : List (ℕ × List Value) → Type 0 = λ rows. All (λ p. names_row present p.0 ≡ true) rows in

@@ -1,6 +1,5 @@
 use Rattle.std.proofs.Common.{◌≡◌, ℕ, List, Option, All, true, sym, subst, rules, slice_set}
 use Rattle.std.specs.BTreeMap.{BTreeMap}
-use Rattle.std.specs.BTreeSet.{BTreeSet}
 use Rattle.std.proofs.lemmas.List.{take_at}
 use Rattle.s2_value.specs.declared.values.Value.{Value}
 use Rattle.s2_rowstore.specs.Lines.{names_row, body_at}
@@ -28,8 +27,8 @@ invariant_of-self-in_err-ready_changes c =
     let notes = c.ready_changes.new.notes in
     let ids = c.ready_changes.new.ids in
     let present = c.list_rows.new.ids.keys in
-    let P : List (BTreeMap (List Value) (BTreeSet ℕ)) → Type 0 = λ ns. IsKept schema ns (slice_set c.self.inside.changed.items c.args.actor ids) present c.list_rows.new.ends mid in
-    let K : List (BTreeMap (List Value) (BTreeSet ℕ)) → Type 0 = λ ns. KeepsNotes ns notes in
+    let P : List (BTreeMap (List Value) (List ℕ)) → Type 0 = λ ns. IsKept schema ns (slice_set c.self.inside.changed.items c.args.actor ids) present c.list_rows.new.ends mid in
+    let K : List (BTreeMap (List Value) (List ℕ)) → Type 0 = λ ns. KeepsNotes ns notes in
     let more = subst K c.as_mut_slice-notes.ensures.value c.ready_changes.ensures.notes in
     let kept : P notes = record {
       keys = search rules;
@@ -52,8 +51,8 @@ invariant_of-self-2 c =
     let ids = c.ready_changes.new.ids in
     let present = c.list_rows.new.ids.keys in
     let was = c.index_mut-ids.result.now in
-    let P : List (BTreeMap (List Value) (BTreeSet ℕ)) → Type 0 = λ ns. IsKept schema ns (slice_set c.self.inside.changed.items c.args.actor ids) present c.list_rows.new.ends new in
-    let K : List (BTreeMap (List Value) (BTreeSet ℕ)) → Type 0 = λ ns. KeepsNotes ns notes in
+    let P : List (BTreeMap (List Value) (List ℕ)) → Type 0 = λ ns. IsKept schema ns (slice_set c.self.inside.changed.items c.args.actor ids) present c.list_rows.new.ends new in
+    let K : List (BTreeMap (List Value) (List ℕ)) → Type 0 = λ ns. KeepsNotes ns notes in
     let Q : List (ℕ × Option (List Value)) → Type 0 = λ changes. All (IsReadyChange schema notes mid ids.keys) changes in
     let ready = subst Q c.as_slice-2.ensures.value c.in_ok-ready_changes.ensures.ready in
     let N : List (ℕ × Option (List Value)) → Type 0 = λ changes. All (λ p. names_row present p.0 ≡ true) changes in

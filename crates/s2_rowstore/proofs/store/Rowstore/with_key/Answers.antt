@@ -36,7 +36,7 @@ returns-clause-rows c =
     let schema_of : Store → Schema = λ S. S.schema in
     let places_at : Schema → List ℕ = λ schema. places_of schema c.args.j in
     let places : c.as_slice-places.result.now ≡ places_of s.schema c.args.j = c.as_slice-places.ensures ∙ c.key_columns.ensures ∙ ap places_at (c.requires.same ∙ sym (ap schema_of c.self.view_is)) in
-    let R : List ℕ → List Value → Type 0 = λ ps k. IfOk c.rows_with_key.result (λ found. found.items ≡ filter (λ n. body_has ps k (body_at s.lines.entries n)) ids.keys) in
+    let R : List ℕ → List Value → Type 0 = λ ps k. IfOk c.rows_with_key.result (λ found. found.items ≡ filter (λ n. body_has ps k (body_at s.lines.entries n)) ids) in
     let R1 : List ℕ → Type 0 = λ ps. R ps c.as_slice.result.now in
     let R2 : List Value → Type 0 = λ k. R (places_of s.schema c.args.j) k in
     let told = subst R2 c.as_slice.ensures (subst R1 places c.rows_with_key.ensures.rows) in
@@ -44,10 +44,10 @@ returns-clause-rows c =
     (λ found e n.
     let F : Store → Bool = λ S. has_key S c.args.j c.args.key.now n in
     let complete = λ (has : body_has (places_of s.schema c.args.j) c.args.key.now (body_at s.lines.entries n) ≡ true).
-    sym (names_any n ids.keys) ∙ named s.schema s.notes.items s.lines.entries c.index.result.now c.args.j c.args.key.now n (Some ids) c.self.invariant.posted lt c.self.invariant.keys c.index.ensures c.in-Some.ensures.value has in
-    ap (λ ns. names_row ns n) e ∙ names_exactly (λ n. body_has (places_of s.schema c.args.j) c.args.key.now (body_at s.lines.entries n)) ids.keys n complete ∙ ap F c.self.view_is)
+    sym (names_any n ids) ∙ named s.schema s.notes.items s.lines.entries c.index.result.now c.args.j c.args.key.now n (Some ids) c.self.invariant.posted lt c.self.invariant.keys c.index.ensures c.in-Some.ensures.value has in
+    ap (λ ns. names_row ns n) e ∙ names_exactly (λ n. body_has (places_of s.schema c.args.j) c.args.key.now (body_at s.lines.entries n)) ids n complete ∙ ap F c.self.view_is)
     told
 
 pub returns-clause-rising : goal.returns-clause-rising
 returns-clause-rising c =
-    IfOk-weaker c.rows_with_key.result _ _ (λ found e. ap are_rising e ∙ filter_rising _ c.in-Some.ids.now.keys (rising_from _ c.rows_with_key.ensures.ordered)) c.rows_with_key.ensures.rows
+    IfOk-weaker c.rows_with_key.result _ _ (λ found e. ap are_rising e ∙ filter_rising _ c.in-Some.ids.now (rising_from _ c.rows_with_key.ensures.ordered)) c.rows_with_key.ensures.rows

@@ -2,7 +2,7 @@ use Rattle.std.proofs.Common.{◌≡◌, ◌++◌}
 use Rattle.std.specs.List.{filter}
 use Rattle.s2_rowstore.specs.Keys.{body_has}
 use Rattle.s2_rowstore.specs.Lines.{body_at}
-use Rattle.s2_rowstore.proofs.lines.rows_with_key.Given as goal
+use Rattle.s2_rowstore.proofs.lines.many_with_key.Given as goal
 
 abbrev pub invariant-loop-id : goal.invariant-loop-id
 invariant-loop-id l =
