@@ -61,8 +61,11 @@ same_default xs i x d lt e = e ∙ within xs i x d lt where
   within : {X : Type 0} (xs : List X) (i : ℕ) (x d : X) → i < length xs → slice_index_or xs i x ≡ slice_index_or xs i d
   within xs i x d lt = grind (arith, common_steps)
 
-pub above_none : (m : ℕ) → 1 < m → 0 < m
-above_none m lt = omega arith
+pub above_none : (m : ℕ) → 1 ≤ m → 0 < m
+above_none m le = omega arith
+
+pub above_one : (m : ℕ) → 2 ≤ m → 1 < m
+above_one m le = omega arith
 
 pub ready_rooms : (schema : Schema) (notes : List (BTreeMap (List Value) (List ℕ))) (lines : List (ℕ × Line)) (rows : List (ℕ × List Value))
     → All (IsReady schema notes lines) rows → All (λ p. 1 < (line_at lines p.0).room) rows

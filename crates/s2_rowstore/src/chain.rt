@@ -185,13 +185,16 @@ impl Chain {
         }
     }
 
-    /// Makes room for two more versions.
-    pub(crate) fn reserve(&mut self) -> Result<(), Memory>
+    /// Makes room for so many more versions, and for the first ones no more than these: most rows have one version for long.
+    pub(crate) fn reserve(&mut self, more: usize) -> Result<(), Memory>
         ensures same { body self.new ≡ body self.old }
-        ensures room { OnOk result (1 < self.new.room) }
+        ensures room { OnOk result (more ≤ self.new.room) }
         ensures kept { self.old.room ≤ self.new.room }
     {
-        self.versions.reserve(2)
+        if self.versions.is_empty() {
+            return self.versions.reserve_exact(more);
+        }
+        self.versions.reserve(more)
     }
 
     /// The row as the actor sees it at r.

@@ -39,17 +39,22 @@ pub(crate) fn row_since(lines: &Lines, id: u64) -> Option<u64>
     lines.get(&id)?.living_since()
 }
 
-/// Makes room for two more versions of the row.
-pub(crate) fn reserve_line(lines: &mut Lines, alloc: Global, id: u64) -> Result<(), Memory>
+/// Makes room for so many more versions of the row.
+pub(crate) fn reserve_line(
+    lines: &mut Lines,
+    alloc: Global,
+    id: u64,
+    more: usize,
+) -> Result<(), Memory>
     ensures same { (n : ℕ) → body_at lines.new.entries n ≡ body_at lines.old.entries n }
-    ensures room { OnOk result (1 < (line_at lines.new.entries id).room) }
+    ensures room { OnOk result (more ≤ (line_at lines.new.entries id).room) }
     ensures kept { (n : ℕ) → (line_at lines.old.entries n).room ≤ (line_at lines.new.entries n).room }
 {
     if let Some(chain) = lines.get_mut(&id) {
-        return chain.reserve();
+        return chain.reserve(more);
     }
     let mut chain = Chain::new(alloc);
-    chain.reserve()?;
+    chain.reserve(more)?;
     lines.insert(id, chain)?;
     Ok(())
 }

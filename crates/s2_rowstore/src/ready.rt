@@ -15,7 +15,7 @@ use s2_value::{Memory, Row, Schema};
 use std::alloc::Global;
 use std::collections::BTreeSet;
 
-// Makes room for two more versions of a row, and notes the keys of the row that is to come.
+// Makes room for so many more versions of a row, and notes the keys of the row that is to come.
 fn ready_line(
     lines: &mut Lines,
     notes: &mut [Notes],
@@ -23,22 +23,23 @@ fn ready_line(
     schema: &Schema,
     id: u64,
     row: Option<&Row>,
+    more: usize,
 ) -> Result<(), Memory>
     requires fits { (r : List AnyValue) → option_copied row ≡ Some r → fits schema.now r ≡ true }
     requires count { length notes.old ≡ length (keys_of schema.now) }
     ensures same { SameBodies lines.old.entries lines.new.entries }
     ensures kept { KeepsRoom lines.old.entries lines.new.entries }
     ensures notes { KeepsNotes notes.old notes.new }
-    ensures room { OnOk result (1 < (line_at lines.new.entries id).room) }
+    ensures room { OnOk result (more ≤ (line_at lines.new.entries id).room) }
     ensures noted { OnOk result ((r : List AnyValue) → option_copied row.entry ≡ Some r → IsNotedRow schema.now notes.new id r) }
 {
     if let Some(row) = row {
         note_row(notes, alloc, schema, id, row)?;
     }
-    reserve_line(lines, alloc, id)
+    reserve_line(lines, alloc, id, more)
 }
 
-/// Makes ready for a version of each of the rows.
+/// Makes ready for a version of each of the rows, with room for that of an open write besides.
 pub(crate) fn ready_rows(
     lines: &mut Lines,
     notes: &mut [Notes],
@@ -53,7 +54,7 @@ pub(crate) fn ready_rows(
     ensures ready { OnOk result (All (IsReady schema.now notes.new lines.new.entries) rows.now) }
 {
     for (id, row) in rows {
-        ready_line(lines, notes, alloc, schema, *id, Some(row))?;
+        ready_line(lines, notes, alloc, schema, *id, Some(row), 2)?;
     }
     Ok(())
 }
@@ -75,7 +76,7 @@ pub(crate) fn ready_changes(
     ensures ready { OnOk result (All (IsReadyChange schema.now notes.new lines.new.entries ids.new.keys) changes.now) }
 {
     for (id, change) in changes {
-        ready_line(lines, notes, alloc, schema, *id, change.as_ref())?;
+        ready_line(lines, notes, alloc, schema, *id, change.as_ref(), 1)?;
         add_id(ids, *id)?;
     }
     Ok(())
