@@ -54,7 +54,10 @@ impl Ends {
         if self.queue.capacity() - self.queue.len() >= more {
             return Ok(());
         }
-        self.queue.reserve(more.saturating_mul(2))
+        // After a pop the queue's own growth goes by its length, so ask for twice the room that there is.
+        let twice = self.queue.capacity().saturating_mul(2);
+        self.queue
+            .reserve(more.max(twice.saturating_sub(self.queue.len())))
     }
 
     /// Puts the pair behind the others.

@@ -53,10 +53,20 @@ pub(crate) fn add_id(ids: &mut BTreeSet<u64>, id: u64) -> Result<(), Memory>
     put_id(ids, id)
 }
 
-/// Puts the row numbers of these pairs among the others, and makes room for the ends of two versions of each.
+// How many row numbers the actors have together.
+fn count_all(changed: &[BTreeSet<u64>]) -> usize {
+    let mut count = 0usize;
+    for ids in changed {
+        count = count.saturating_add(ids.len());
+    }
+    count
+}
+
+/// Puts the row numbers of these pairs among the others, and makes room for all ends until the next call: `changed` has each actor's rows with an open write.
 pub(crate) fn list_rows<T>(
     ids: &mut BTreeSet<u64>,
     ends: &mut Ends,
+    changed: &[BTreeSet<u64>],
     rows: &[(u64, T)],
 ) -> Result<(), Memory>
     ensures ends { ends.new ≡ ends.old }
@@ -66,7 +76,9 @@ pub(crate) fn list_rows<T>(
     for (id, _) in rows {
         add_id(ids, *id)?;
     }
-    ends.reserve(ids.len().saturating_mul(2))?;
+    // A commit queues one end for each row with an open write, and a row that ends otherwise has none and is present no more.
+    let open = count_all(changed).saturating_add(rows.len());
+    ends.reserve(ids.len().saturating_add(open))?;
     Ok(())
 }
 

@@ -171,7 +171,12 @@ impl Rowstore {
         ensures slots { (n : ℕ) → slot self.new n ≡ slot self.old n }
         ensures memory { OnErr result ((n : ℕ) → chain self.new n ≡ chain self.old n) }
     {
-        list_rows(&mut self.present, &mut self.ends, rows.as_slice())?;
+        list_rows(
+            &mut self.present,
+            &mut self.ends,
+            &self.changed,
+            rows.as_slice(),
+        )?;
         let notes = self.notes.as_mut_slice();
         ready_rows(&mut self.lines, notes, alloc, &self.schema, rows.as_slice())?;
         begin_all(&mut self.lines, rows, time);
@@ -194,7 +199,12 @@ impl Rowstore {
         ensures slots { OnOk result ((n : ℕ) → slot self.new n ≡ slot_put actor (for_row changes.items n) (slot self.old n)) }
         ensures memory { OnErr result ((n : ℕ) → slot self.new n ≡ slot self.old n) }
     {
-        list_rows(&mut self.present, &mut self.ends, changes.as_slice())?;
+        list_rows(
+            &mut self.present,
+            &mut self.ends,
+            &self.changed,
+            changes.as_slice(),
+        )?;
         let ids = &mut self.changed[actor as usize];
         let notes = self.notes.as_mut_slice();
         ready_changes(
