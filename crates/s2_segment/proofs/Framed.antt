@@ -45,7 +45,7 @@ pub record BlockSpelled (bytes : List ℕ) (x : List ℕ × List ℕ) : Type 0 w
   pub block_bytes : IsBytes x.0
   pub rest_bytes : IsBytes x.1
 
-block_spelled : (bytes : List ℕ) (x : List ℕ × List ℕ) → IsBytes bytes → block_at bytes ≡ Ok x → BlockSpelled bytes x
+pub block_spelled : (bytes : List ℕ) (x : List ℕ × List ℕ) → IsBytes bytes → block_at bytes ≡ Ok x → BlockSpelled bytes x
 unfolding block_at
 block_spelled bytes x b h =
     let g = goes (number_or fault.Short 4 bytes) (λ (size : ℕ × List ℕ). front_or fault.Short size.0 size.1) x h in

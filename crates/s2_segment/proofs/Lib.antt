@@ -13,3 +13,4 @@ pub mod Same
 pub mod Best
 pub mod Written
 pub mod Zones
+pub mod Matched

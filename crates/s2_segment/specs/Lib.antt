@@ -11,3 +11,4 @@ pub mod Owned
 pub mod Skips
 pub mod Stats
 pub mod Same
+pub mod Matched

@@ -5,7 +5,7 @@ use Rattle.s2_value.specs.declared.values.Value.{Value}
 use Rattle.s2_colenc.specs.declared.views.Body.{Body}
 use Rattle.s2_colenc.specs.Column.{values_of}
 use Rattle.s2_segment.specs.declared.faults.SegErr.{SegErr}
-use Rattle.s2_segment.specs.declared.indexes.IndexBlock.{IndexBlock}
+use Rattle.s2_segment.specs.declared.indexed.IndexBlock.{IndexBlock}
 use Rattle.s2_segment.specs.Parts.{Indexed}
 
 -- an index block without where it lies in memory

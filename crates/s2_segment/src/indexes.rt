@@ -11,16 +11,10 @@ ghost use Rattle.s2_segment.specs.Places.{seen};
 
 use crate::SegErr;
 use crate::blocks::split_block;
+use crate::indexed::IndexBlock;
 use s2_segindex::{Index, IndexErr};
 use s2_value::{Col, ColType, Memory, Schema};
 use std::alloc::Global;
-
-/// An index, and the bytes of its block.
-#[derive(Debug, Drop)]
-pub(crate) struct IndexBlock<'a> {
-    pub(crate) index: Index<'a>,
-    pub(crate) bytes: &'a [u8],
-}
 
 // The types of a key's columns.
 fn kinds_of(alloc: Global, cols: &[Col], key: &[u8]) -> Result<Vec<ColType>, Memory>
@@ -68,6 +62,8 @@ fn read_index<'a>(
             IndexBlock {
                 index,
                 bytes: block,
+                width: kinds.len(),
+                count: n,
             },
             rest,
         )),

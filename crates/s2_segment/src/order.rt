@@ -1,6 +1,7 @@
 //! Rows in file order, and the indexes of rows.
-ghost use Rattle.std.specs.Prelude.{◌≡◌, ◌≤◌, ◌*◌, true, length, map, zip, IfOk};
+ghost use Rattle.std.specs.Prelude.{◌≡◌, ◌≤◌, ◌*◌, true, length, map, zip, nat_eq, IfOk};
 ghost use Rattle.std.specs.List.{list_all};
+ghost use Rattle.std.specs.Cmp.Lexicographic.{pointwise};
 ghost use Rattle.s2_colbytes.specs.Numbers.{numbers};
 ghost use Rattle.s2_value.specs.Columns.{are_below};
 ghost use Rattle.s2_value.specs.Order.{row_cmp};
@@ -9,14 +10,14 @@ ghost use Rattle.s2_value.specs.Schemas.{keys_of};
 ghost use Rattle.s2_model.specs.Plan.{stands_before};
 ghost use Rattle.s2_model.specs.Laws.{in_order_from, is_in_file_order};
 ghost use Rattle.s2_segment.specs.Places.{seen, has_width};
-ghost use Rattle.s2_segment.specs.Checks.{first_wrong, fault_of};
+ghost use Rattle.s2_segment.specs.Checks.{key_block, first_wrong, fault_of};
 
 use crate::SegErr;
 use crate::copies::are_same;
-use crate::indexes::IndexBlock;
+use crate::indexed::IndexBlock;
 use s2_colbytes::u64_from;
 use s2_segindex::build;
-use s2_value::{Memory, Row, Schema, Value};
+use s2_value::{ColList, Memory, Row, Schema, Value};
 use std::alloc::Global;
 use std::cmp::Ordering;
 
@@ -81,6 +82,25 @@ pub(crate) fn are_in_order(schema: &Schema, ids: &[u8], rows: &[Row]) -> bool
     are_in_order_from(schema, u64_from(ids, 0), first, ids.split_at(8).1, later)
 }
 
+// Whether the index's block is that of the rows: where a look at its offsets doesn't tell it, the block of the rows is built.
+fn is_right(
+    alloc: Global,
+    index: &IndexBlock<'_>,
+    key: &ColList,
+    rows: &[Row],
+) -> Result<bool, Memory>
+    requires few { length rows.now ≤ 8192 }
+    requires key { length key.now ≤ 16 }
+    requires columns { list_all (λ r. are_below (length r) key.now) rows.now ≡ true }
+    ensures { IfOk result (λ b. b ≡ pointwise nat_eq index.now.bytes.now (key_block rows.now key.now)) }
+{
+    if index.is_matched(key.as_slice(), rows) {
+        return Ok(true);
+    }
+    let block = build(alloc, rows, key)?;
+    Ok(are_same(index.bytes, block.as_slice()))
+}
+
 // The first index whose block isn't that of the rows, from 0.
 fn first_wrong(
     alloc: Global,
@@ -94,8 +114,8 @@ fn first_wrong(
     ensures { IfOk result (λ j. j ≡ first_wrong 0 (map seen indexes.now) (keys_of schema.now) rows.now) }
 {
     for j in 0..indexes.len() {
-        let block = build(alloc, rows, schema.key_columns(j))?;
-        if !are_same(indexes[j].bytes, block.as_slice()) {
+        let right = is_right(alloc, &indexes[j], schema.key_columns(j), rows)?;
+        if !right {
             return Ok(Some(j as u8));
         }
     }

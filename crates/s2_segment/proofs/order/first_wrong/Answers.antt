@@ -6,7 +6,7 @@ use Rattle.std.specs.Cmp.Lexicographic.{pointwise}
 use Rattle.std.proofs.Math.Seq.{drop-cons}
 use Rattle.s2_value.specs.Schemas.{keys_of}
 use Rattle.s2_value.proofs.KeyLemmas.{key_below}
-use Rattle.s2_segment.specs.declared.indexes.IndexBlock.{IndexBlock}
+use Rattle.s2_segment.specs.declared.indexed.IndexBlock.{IndexBlock}
 use Rattle.s2_segment.specs.Rows.{RowOf}
 use Rattle.s2_segment.specs.Checks.{key_block, first_wrong}
 use Rattle.s2_segment.specs.Places.{seen}
@@ -21,29 +21,25 @@ from_here j blocks keys rows b l m e =
     let key : drop j keys ≡ get_or keys j [] ∷ drop (j + 1) keys = drop-cons keys j [] m ∙ ap (λ (k : ℕ). get_or keys j [] ∷ drop k keys) s in
     ap (λ (bs : List IndexBlock). first_wrong j (map seen bs) (drop j keys) rows) here ∙ ap (λ (ks : List (List ℕ)). first_wrong j (map seen (b ∷ drop (j + 1) blocks)) ks rows) key
 
-pub build-requires-clause-key : goal.build-requires-clause-key
-build-requires-clause-key c =
+pub is_right-requires-clause-key : goal.is_right-requires-clause-key
+is_right-requires-clause-key c =
     let s = c.args.schema.now in
     let k = key_short (length s.cols) s.uniques s.indexes s.sort c.loop-j.j s.within (omega arith) in
     subst (λ (p : List ℕ). length p ≤ 16) (sym c.key_columns.ensures) (omega arith)
 
-pub build-requires-clause-columns : goal.build-requires-clause-columns
-build-requires-clause-columns c =
+pub is_right-requires-clause-columns : goal.is_right-requires-clause-columns
+is_right-requires-clause-columns c =
     let s = c.args.schema.now in
     subst (λ (p : List ℕ). list_all (λ (r : RowOf). are_below (length r) p) c.args.rows.now ≡ true) (sym c.key_columns.ensures) (rows_below (length s.cols) (get_or (keys_of s) c.loop-j.j []) c.args.rows.now (key_below (length s.cols) s.uniques s.indexes s.sort c.loop-j.j s.within (omega arith)) c.requires.rows)
 
--- whether the block is that of the rows
-is_block : (bytes block : List ℕ) (rows : List RowOf) (key places : List ℕ) (slice : List ℕ) (b : Bool) → b ≡ pointwise nat_eq bytes slice → slice ≡ block → block ≡ key_block rows places → places ≡ key → pointwise nat_eq bytes (key_block rows key) ≡ b
-is_block bytes block rows key places slice b e s k p = sym (e ∙ ap (pointwise nat_eq bytes) (s ∙ k ∙ ap (key_block rows) p))
-
-pub returns-then-not-are_same : goal.returns-then-not-are_same
-returns-then-not-are_same c =
+pub returns-then-not-right : goal.returns-then-not-right
+returns-then-not-right c =
     let keys : List (List ℕ) = keys_of c.args.schema.now in
     let j = c.loop-j.j in
     let rows : List RowOf = c.args.rows.now in
     let b : IndexBlock = c.index-indexes-j.result in
-    let same = is_block b.bytes.now c.in_ok-block.block.items rows (get_or keys j []) c.key_columns.result.now c.as_slice.result.now c.are_same.result (c.are_same.ensures ∙ ap (λ (x : IndexBlock). pointwise nat_eq x.bytes.now c.as_slice.result.now) (sym c.index-indexes-j.is)) c.as_slice.ensures.value c.in_ok-block.ensures c.key_columns.ensures in
-    let no : c.are_same.result ≡ false = cc in
+    let same : pointwise nat_eq b.bytes.now (key_block rows (get_or keys j [])) ≡ c.in_ok-right.right = sym (c.in_ok-right.ensures ∙ ap (λ (k : List ℕ). pointwise nat_eq b.bytes.now (key_block rows k)) c.key_columns.ensures) in
+    let no : c.in_ok-right.right ≡ false = cc in
     sym (ap (λ (t : Bool). if t then first_wrong (j + 1) (map seen (drop (j + 1) c.args.indexes.now)) (drop (j + 1) keys) rows else Some j) (same ∙ no)) ∙ sym (from_here j c.args.indexes.now keys rows b (omega arith) (omega arith) c.index-indexes-j.is) ∙ c.loop-j.invariant
 
 pub loop-j-preserved : goal.loop-j-preserved
@@ -52,6 +48,6 @@ loop-j-preserved c =
     let j = c.loop-j.j in
     let rows : List RowOf = c.args.rows.now in
     let b : IndexBlock = c.index-indexes-j.result in
-    let same = is_block b.bytes.now c.in_ok-block.block.items rows (get_or keys j []) c.key_columns.result.now c.as_slice.result.now c.are_same.result (c.are_same.ensures ∙ ap (λ (x : IndexBlock). pointwise nat_eq x.bytes.now c.as_slice.result.now) (sym c.index-indexes-j.is)) c.as_slice.ensures.value c.in_ok-block.ensures c.key_columns.ensures in
-    let yes : c.are_same.result ≡ true = cc in
+    let same : pointwise nat_eq b.bytes.now (key_block rows (get_or keys j [])) ≡ c.in_ok-right.right = sym (c.in_ok-right.ensures ∙ ap (λ (k : List ℕ). pointwise nat_eq b.bytes.now (key_block rows k)) c.key_columns.ensures) in
+    let yes : c.in_ok-right.right ≡ true = cc in
     sym (ap (λ (t : Bool). if t then first_wrong (j + 1) (map seen (drop (j + 1) c.args.indexes.now)) (drop (j + 1) keys) rows else Some j) (same ∙ yes)) ∙ sym (from_here j c.args.indexes.now keys rows b (omega arith) (omega arith) c.index-indexes-j.is) ∙ c.loop-j.invariant
