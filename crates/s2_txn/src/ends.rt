@@ -1,15 +1,19 @@
 //! COMMIT and ROLLBACK.
-ghost use Rattle.std.specs.Prelude.{◌≡◌, ◌≤◌, ◌<◌, ◌∷◌, ◌+◌, ◌^◌, true, is_some, length};
+ghost use Rattle.std.specs.Prelude.{◌≡◌, ◌≤◌, ◌<◌, ◌∷◌, ◌+◌, ◌^◌, ℕ, true, is_some, length};
 ghost use Rattle.s2_model.specs.declared.statements.Stmt.TheVariants as stmt;
 ghost use Rattle.s2_model.specs.declared.entries.What.TheVariants as entry;
 ghost use Rattle.s2_model.specs.History.{is_running, pin_of, ◌▷◌};
+ghost use Rattle.s2_rowstore.specs.Store.{chain};
 ghost use Rattle.s2_state.specs.States.{history_of, room_of, SameParts};
+ghost use Rattle.s2_state.specs.Ends.{Frees};
 ghost use Rattle.s2_state.specs.Good.{Good};
 ghost use Rattle.s2_txn.specs.Entries.{Commits, RollsBack};
 ghost use Rattle.s2_txn.specs.Says.{Says, SameTable};
 
 use s2_model::{Entry, Logged, Refusal, Reply, What};
+use s2_rowstore::Rowstore;
 use s2_state::State;
+use s2_uniquelock::LockTable;
 
 /// The actor's open writes take effect, and it holds nothing any more.
 pub(crate) fn commit_writes(s: &mut State, actor: u8)
@@ -27,14 +31,23 @@ pub(crate) fn commit_writes(s: &mut State, actor: u8)
     });
 }
 
+// The actor's open writes are gone from the rows, which stay as committed, and it holds nothing any more.
+fn forget(rows: &mut Rowstore, held: &mut LockTable, actor: u8)
+    requires { (0 < actor) × (actor < 17) }
+    ensures frees { Frees actor rows.old rows.new held.old held.new }
+    ensures chains { (n : ℕ) → chain rows.new n ≡ chain rows.old n }
+{
+    rows.undo(actor);
+    held.free_all(actor);
+}
+
 // The actor's open writes are forgotten, and it holds nothing any more.
 fn undo_writes(s: &mut State, actor: u8)
     requires actor { (0 < actor) × (actor < 17) }
     requires room { 0 < room_of s.old }
     ensures { RollsBack actor s.old s.new }
 {
-    s.rows.undo(actor);
-    s.locks.free_all(actor);
+    forget(&mut s.rows, &mut s.locks, actor);
     s.append(Entry {
         actor,
         what: What::Rollback,
