@@ -104,7 +104,7 @@ fn number_at(row: &[Value], place: usize) -> i64 {
     }
 }
 
-fn show_row(rt: &HostRuntime, id: u64, row: &Row) -> anyhow::Result<()> {
+fn show_pair(rt: &HostRuntime, id: u64, row: &Row) -> anyhow::Result<()> {
     let row = row.as_slice();
     print!(rt; " {id}=({}, {})", number_at(row, 0), number_at(row, 1))?;
     Ok(())
@@ -112,7 +112,7 @@ fn show_row(rt: &HostRuntime, id: u64, row: &Row) -> anyhow::Result<()> {
 
 fn show_rows(rt: &HostRuntime, rows: &TableRows) -> anyhow::Result<()> {
     for (id, row) in rows.as_slice() {
-        show_row(rt, *id, row)?;
+        show_pair(rt, *id, row)?;
     }
     println!(rt;)?;
     Ok(())
@@ -122,7 +122,7 @@ fn show_lent(rt: &HostRuntime, bed: &Bed, actor: u8, r: u64) -> anyhow::Result<(
     print!(rt; "lent to actor {actor} at {r}:")?;
     let rows = bed.seen_rows(rt.alloc(), actor, r)?;
     for (id, row) in rows.as_slice() {
-        show_row(rt, *id, row)?;
+        show_pair(rt, *id, row)?;
     }
     println!(rt;)?;
     Ok(())
