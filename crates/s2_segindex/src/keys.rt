@@ -166,8 +166,8 @@ fn after_text(bytes: &[u8]) -> &[u8]
     }
 }
 
-// The bytes after the value at the front.
-fn after_value(bytes: &[u8]) -> &[u8]
+/// The bytes after the value at the front; none where it isn't whole.
+pub fn after_value(bytes: &[u8]) -> &[u8]
     ensures { result.now ≡ after_value bytes.now }
 {
     match bytes {
@@ -177,9 +177,9 @@ fn after_value(bytes: &[u8]) -> &[u8]
     }
 }
 
-/// The bytes after a key of `width` values.
+/// The bytes after a key of `width` values at the front; none where it isn't whole.
 #[tactic(auto, using(crate::proofs::Steps::after_step))]
-pub(crate) fn after_key(width: usize, bytes: &[u8]) -> &[u8]
+pub fn after_key(width: usize, bytes: &[u8]) -> &[u8]
     ensures { result.now ≡ after_key width bytes.now }
 {
     let mut left = width;
@@ -191,8 +191,8 @@ pub(crate) fn after_key(width: usize, bytes: &[u8]) -> &[u8]
     rest
 }
 
-// A value against the one at the front of the bytes.
-fn cmp_value(value: &Value, bytes: &[u8]) -> Ordering
+/// A value against the one at the front of the bytes, in the order of values: numbers before texts.
+pub fn cmp_value(value: &Value, bytes: &[u8]) -> Ordering
     ensures { result ≡ value_cmp value.now (value_in bytes.now) }
 {
     match (value, bytes) {

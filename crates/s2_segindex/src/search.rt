@@ -10,8 +10,8 @@ use s2_colbytes::{u16_at, u32_at};
 use s2_value::Value;
 use std::cmp::Ordering;
 
-// How many groups there are.
-fn count_of(bytes: &[u8]) -> usize
+/// How many groups an index block says that it has.
+pub fn count_of(bytes: &[u8]) -> usize
     requires { 4 ≤ length bytes.now }
     ensures { result ≡ little_number 4 bytes.now }
 {
@@ -27,8 +27,9 @@ fn start_of(bytes: &[u8], i: usize) -> usize
     u32_at(bytes, i + 1) as usize
 }
 
-// The bytes from group `i` on.
-fn group_from(width: usize, bytes: &[u8], i: usize) -> &[u8]
+/// The bytes of an index block of keys of `width` values from group `i` on: its key, then how many offsets it has, then
+/// those. It takes constant time.
+pub fn group_from(width: usize, bytes: &[u8], i: usize) -> &[u8]
     requires index { IsIndex width bytes.now }
     requires within { i < little_number 4 bytes.now }
     ensures place { result.now ≡ drop (slice_index (starts_in bytes.now) i) bytes.now }

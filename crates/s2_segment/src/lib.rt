@@ -26,3 +26,8 @@ pub use laws::{
 pub use owned::File;
 pub use view::View;
 pub use writing::{all_fit, are_numbered, are_ordered, write};
+
+#[cfg(test)]
+mod bed;
+#[cfg(test)]
+mod tests;

@@ -1,107 +1,18 @@
 //! Whether an index block is that of rows, by a look at each of its offsets.
-ghost use Rattle.std.specs.Prelude.{◌≡◌, ◌+◌, ◌*◌, ◌<◌, ◌≤◌, true, length, take, drop, slice_index, IfSome};
+ghost use Rattle.std.specs.Prelude.{◌≡◌, ◌*◌, ◌≤◌, true, length, IfSome};
 ghost use Rattle.std.specs.List.{list_all};
 ghost use Rattle.std.specs.Ordering.{is_eq};
-ghost use Rattle.byteorder.specs.Endian.{little_number};
 ghost use Rattle.s2_colbytes.specs.Numbers.{numbers};
 ghost use Rattle.s2_value.specs.Columns.{are_below};
-ghost use Rattle.s2_value.specs.Order.{value_cmp, row_cmp};
+ghost use Rattle.s2_value.specs.Order.{row_cmp};
 ghost use Rattle.s2_value.specs.Rows.{key_of};
-ghost use Rattle.s2_segindex.specs.Places.{number_in, text_in, after_text, value_in, after_value, key_in, after_key, group_in, groups_in, starts_in, has_offsets, IsIndex};
+ghost use Rattle.s2_segindex.specs.Places.{key_in, after_key, group_in, groups_in, has_offsets, IsIndex};
 ghost use Rattle.s2_segment.specs.Matched.{has_key, is_matched, AreMatched};
 
-use s2_colbytes::{i64_at, u16_at, u32_at};
+use s2_colbytes::u16_at;
+use s2_segindex::{after_key, after_value, cmp_value, count_of, group_from};
 use s2_value::{Row, Value};
 use std::cmp::Ordering;
-
-// The number at the front, 0 where it isn't whole.
-fn number_in(bytes: &[u8]) -> i64
-    ensures { result ≡ number_in bytes.now }
-{
-    if bytes.len() < 8 {
-        return 0;
-    }
-    i64_at(bytes, 0)
-}
-
-// The first bytes, as many as there are.
-fn first_of(bytes: &[u8], count: usize) -> &[u8]
-    ensures { result.now ≡ take count bytes.now }
-{
-    if bytes.len() < count {
-        return bytes;
-    }
-    bytes.split_at(count).0
-}
-
-// The bytes after the first ones.
-fn after_first(bytes: &[u8], count: usize) -> &[u8]
-    ensures { result.now ≡ drop count bytes.now }
-{
-    if bytes.len() < count {
-        return &[];
-    }
-    bytes.split_at(count).1
-}
-
-// The text at the front.
-fn text_in(bytes: &[u8]) -> &[u8]
-    ensures { result.now ≡ text_in bytes.now }
-{
-    match bytes {
-        [] => &[],
-        [len, bytes @ ..] => first_of(bytes, usize::from(*len)),
-    }
-}
-
-// The bytes after the text at the front.
-fn after_text(bytes: &[u8]) -> &[u8]
-    ensures { result.now ≡ after_text bytes.now }
-{
-    match bytes {
-        [] => &[],
-        [len, bytes @ ..] => after_first(bytes, usize::from(*len)),
-    }
-}
-
-// The bytes after the value at the front.
-fn after_value(bytes: &[u8]) -> &[u8]
-    ensures { result.now ≡ after_value bytes.now }
-{
-    match bytes {
-        [] => &[],
-        [1, bytes @ ..] => after_first(bytes, 8),
-        [_, bytes @ ..] => after_text(bytes),
-    }
-}
-
-// The bytes after a key of `width` values.
-#[tactic(auto, using(s2_segindex::proofs::Steps::after_step))]
-fn after_key(width: usize, bytes: &[u8]) -> &[u8]
-    ensures { result.now ≡ after_key width bytes.now }
-{
-    let mut left = width;
-    let mut rest = bytes;
-    while left > 0 {
-        rest = after_value(rest);
-        left -= 1;
-    }
-    rest
-}
-
-// A value against the one at the front of the bytes.
-fn cmp_value(value: &Value, bytes: &[u8]) -> Ordering
-    ensures { result ≡ value_cmp value.now (value_in bytes.now) }
-{
-    match (value, bytes) {
-        (Value::Int(x), []) => x.cmp(&0),
-        (Value::Int(x), [1, bytes @ ..]) => x.cmp(&number_in(bytes)),
-        (Value::Int(_), [_, ..]) => Ordering::Less,
-        (Value::Text(_), []) => Ordering::Greater,
-        (Value::Text(_), [1, ..]) => Ordering::Greater,
-        (Value::Text(x), [_, bytes @ ..]) => x.bytes().cmp(&text_in(bytes)),
-    }
-}
 
 // Whether the row's values at the places are those at the front of the bytes.
 fn has_key(places: &[u8], row: &[Value], bytes: &[u8]) -> bool
@@ -155,33 +66,6 @@ fn count_matched(places: &[u8], rows: &[Row], group: &[u8]) -> Option<usize>
     } else {
         None
     }
-}
-
-// How many groups there are.
-fn count_of(bytes: &[u8]) -> usize
-    requires { 4 ≤ length bytes.now }
-    ensures { result ≡ little_number 4 bytes.now }
-{
-    u32_at(bytes, 0) as usize
-}
-
-// Where group `i` begins.
-fn start_of(bytes: &[u8], i: usize) -> usize
-    requires whole { 4 + 4 * little_number 4 bytes.now ≤ length bytes.now }
-    requires within { i < little_number 4 bytes.now }
-    ensures { result ≡ slice_index (starts_in bytes.now) i }
-{
-    u32_at(bytes, i + 1) as usize
-}
-
-// The bytes from group `i` on.
-fn group_from(width: usize, bytes: &[u8], i: usize) -> &[u8]
-    requires index { IsIndex width bytes.now }
-    requires within { i < little_number 4 bytes.now }
-    ensures place { result.now ≡ drop (slice_index (starts_in bytes.now) i) bytes.now }
-    ensures whole { has_offsets (after_key width result.now) ≡ true }
-{
-    bytes.split_at(start_of(bytes, i)).1
 }
 
 /// Whether the groups of an index have as many offsets as there are rows, each of a row that has its group's key: then
