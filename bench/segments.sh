@@ -198,7 +198,7 @@ fn main(rt: HostRuntime) -> Result<(), Fail> {
 }
 PROGRAM
 cd "$work/crates/s2_segbench"
-rt run | grep ' us (\| ns (\|^bytes'
+rt run | awk '/ us \(| ns \(/ { print } /^bytes/ { printf "%s, %.1f a row\n", $0, $2 / 8192 }'
 command -v python3 > /dev/null || exit 0
 python3 - <<'HASH'
 import hashlib, time
