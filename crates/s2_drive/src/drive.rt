@@ -46,7 +46,7 @@ fn run_lines(alloc: Global, state: &mut State, lines: LineList) -> Result<Vec<Sa
     ensures sessions { IfOk result (λ replies. vec_len replies ≡ 16) }
     ensures run { IfOk result (λ replies. RunsTo state.old.schema lines (history_of state.new) replies.items) }
 {
-    let mut replies = no_replies(alloc)?;
+    let mut replies = no_replies(alloc, lines.as_slice())?;
     let mut left = lines.into_vec();
     left.reverse();
     while let Some(line) = take_line(&mut left) {

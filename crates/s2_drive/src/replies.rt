@@ -2,21 +2,34 @@
 ghost use Rattle.std.specs.Prelude.{◌≡◌, ◌<◌, ◌-◌, ◌+◌, ◌++◌, ◌∷◌, [], IfOk, OnOk, vec_len, replicate, set, slice_index_or};
 ghost use Rattle.s2_drive.specs.Dealt.{spoken_from};
 
-use s2_model::{Said, SaidList, Transcript, TranscriptList};
+use s2_model::{Line, Said, SaidList, Transcript, TranscriptList};
 use s2_value::{Memory, Seq};
 use std::alloc::Global;
 
 /// How many sessions there are.
 const SESSIONS: usize = 16;
 
-/// No reply of any session.
-pub fn no_replies(alloc: Global) -> Result<Vec<SaidList>, Memory>
+// How many lines each session has.
+fn count_lines(lines: &[Line]) -> [usize; SESSIONS] {
+    let mut counts = [0usize; SESSIONS];
+    for line in lines {
+        if let Some(count) = counts.get_mut(usize::from(line.session).wrapping_sub(1)) {
+            *count = count.saturating_add(1);
+        }
+    }
+    counts
+}
+
+/// No reply of any session, and room for one to each of its lines.
+pub fn no_replies(alloc: Global, lines: &[Line]) -> Result<Vec<SaidList>, Memory>
     ensures items { IfOk result (λ replies. replies.items ≡ replicate 16 []) }
     ensures len { IfOk result (λ replies. vec_len replies ≡ 16) }
 {
+    let counts = count_lines(lines);
     let mut replies = Vec::with_capacity(alloc, SESSIONS)?;
-    for _i in 0..SESSIONS {
-        replies.push(Seq::new(alloc))?;
+    for i in 0..SESSIONS {
+        let room = Vec::with_capacity(alloc, counts[i])?;
+        replies.push(Seq::from_vec(room))?;
     }
     Ok(replies)
 }

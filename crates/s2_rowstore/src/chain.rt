@@ -9,6 +9,7 @@ ghost use Rattle.s2_rowstore.specs.Chains.{body, row_at, is_visible, is_living, 
 
 use crate::notes::row_has;
 use s2_value::{Memory, Row, Seq, Value};
+use sqlite_items::Boxed;
 use std::alloc::Global;
 use std::marker::Model;
 use std::mem;
@@ -21,11 +22,11 @@ pub struct Version {
     pub stop: Option<u64>,
 }
 
-/// The open write of a row: whose it is, and the row that it puts, or none where it drops the row.
+/// The open write of a row: whose it is, and the row that it puts, or none where it drops the row. Few rows have one, so its row stands on the heap.
 #[derive(Debug, Drop)]
 pub struct Slot {
     pub holder: u8,
-    pub change: Option<Row>,
+    pub change: Boxed<Option<Row>>,
 }
 
 /// The versions of one row in the order of their beginning, and its open write.
@@ -169,7 +170,7 @@ fn lend_done(alloc: Global, versions: &mut [Version], i: usize, h: u64) -> Optio
 // The row that an open write puts.
 fn row_of(slot: Option<Slot>) -> Option<Row> {
     match slot {
-        Some(slot) => slot.change,
+        Some(slot) => slot.change.into_inner(),
         None => None,
     }
 }
@@ -202,7 +203,7 @@ impl Chain {
         ensures { option_copied result ≡ seen actor r (body self.now) }
     {
         match &self.slot {
-            Some(slot) if slot.holder == actor => slot.change.as_ref(),
+            Some(slot) if slot.holder == actor => slot.change.get().as_ref(),
             _ => row_at(self.versions.as_slice(), r),
         }
     }
@@ -246,7 +247,7 @@ impl Chain {
             return;
         };
         end_living(self.versions.as_mut_slice(), time);
-        if let Some(row) = slot.change {
+        if let Some(row) = slot.change.into_inner() {
             let _ = self.versions.push(Version {
                 row,
                 begin: time,
@@ -332,14 +333,12 @@ impl Chain {
     fn slot_has(&self, places: &[u8], key: &[Value]) -> bool
         ensures { result ≡ slot_has places.now key.now self.now.slot }
     {
-        match &self.slot {
-            Some(
-                Slot {
-                    change: Some(row),
-                    ..
-                },
-            ) => row_has(places, key, row.as_slice()),
-            _ => false,
+        let Some(slot) = &self.slot else {
+            return false;
+        };
+        match slot.change.get() {
+            Some(row) => row_has(places, key, row.as_slice()),
+            None => false,
         }
     }
 

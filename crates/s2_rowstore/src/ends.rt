@@ -54,10 +54,13 @@ impl Ends {
         if self.queue.capacity() - self.queue.len() >= more {
             return Ok(());
         }
-        // After a pop the queue's own growth goes by its length, so ask for twice the room that there is.
-        let twice = self.queue.capacity().saturating_mul(2);
+        // A quarter more than there is, so that growth costs each pair a few moves, and little room stands empty.
+        let larger = self
+            .queue
+            .capacity()
+            .saturating_add(self.queue.capacity() / 4);
         self.queue
-            .reserve(more.max(twice.saturating_sub(self.queue.len())))
+            .reserve_exact(more.max(larger.saturating_sub(self.queue.len())))
     }
 
     /// Puts the pair behind the others.

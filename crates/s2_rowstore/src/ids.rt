@@ -18,7 +18,7 @@ pub(crate) struct Ids {
 #[derive(Drop)]
 pub(crate) enum Held {
     One(u64),
-    Many(BTreeSet<u64>),
+    Many(Box<BTreeSet<u64>>),
 }
 
 impl Model for Ids {
@@ -70,7 +70,7 @@ fn put_held(held: &mut Held, alloc: Global, id: u64) -> Result<(), Memory>
         Held::Many(ids) => return put_id(ids, id),
     };
     if only != id {
-        *held = Held::Many(pair(alloc, only, id)?);
+        *held = Held::Many(Box::new(alloc, pair(alloc, only, id)?)?);
     }
     Ok(())
 }

@@ -19,6 +19,7 @@ use crate::ids::{Held, Ids};
 use crate::notes::Notes;
 use crate::unnoted::{cut_noted, put_noted, undo_noted, unnote_all_done};
 use s2_value::{Duplicate, Memory, Row, Schema, Seq, TableRows, Value};
+use sqlite_items::Boxed;
 use std::alloc::Global;
 use std::collections::{BTreeMap, BTreeSet};
 use std::ops::Bound;
@@ -137,6 +138,20 @@ pub(crate) fn begin_all(lines: &mut Lines, rows: Vec<(u64, Row)>, time: u64)
     }
 }
 
+/// The changes with their rows on the heap.
+pub(crate) fn boxed(
+    alloc: Global,
+    changes: Vec<(u64, Option<Row>)>,
+) -> Result<Vec<(u64, Boxed<Option<Row>>)>, Memory>
+    ensures { IfOk result (λ boxes. boxes.items ≡ changes.items) }
+{
+    let mut boxes = Vec::with_capacity(alloc, changes.len())?;
+    for (id, change) in changes {
+        boxes.push((id, Boxed::new(alloc, change)?))?;
+    }
+    Ok(boxes)
+}
+
 /// Sets the actor's open write of each of the rows, and takes back the notes of those before them.
 pub(crate) fn put_all(
     lines: &mut Lines,
@@ -144,7 +159,7 @@ pub(crate) fn put_all(
     spare: &mut Vec<Value>,
     schema: &Schema,
     actor: u8,
-    changes: Vec<(u64, Option<Row>)>,
+    changes: Vec<(u64, Boxed<Option<Row>>)>,
 )
     requires apart { are_apart changes.items ≡ true }
     requires room { have_room 0 lines.old.entries changes.items ≡ true }

@@ -12,8 +12,8 @@ use crate::chain::{Slot, Version};
 use crate::copies::copy_schema;
 use crate::ends::{Ends, push_all};
 use crate::lines::{
-    Lines, begin_all, commit_all, cut_rows, end_line, lent_rows, put_all, row_since, rows_with_key,
-    seen_row, undo_all, visible_rows,
+    Lines, begin_all, boxed, commit_all, cut_rows, end_line, lent_rows, put_all, row_since,
+    rows_with_key, seen_row, undo_all, visible_rows,
 };
 use crate::notes::Notes;
 use crate::present::{changed_rows, drop_absent, drop_all_absent, first_free, list_rows};
@@ -215,6 +215,7 @@ impl Rowstore {
             &self.schema,
             changes.as_slice(),
         )?;
+        let changes = boxed(alloc, changes)?;
         put_all(
             &mut self.lines,
             notes,

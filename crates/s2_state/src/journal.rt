@@ -77,8 +77,13 @@ impl Journal {
         ensures room { OnOk result (more ≤ self.new.room) }
         ensures kept { self.old.room ≤ self.new.room }
     {
-        self.entries.reserve(more as usize)?;
-        Ok(())
+        let more = more as usize;
+        if self.entries.capacity() - self.entries.len() >= more {
+            return Ok(());
+        }
+        // An eighth more than there is, so that growth costs each entry a few moves, and little room stands empty.
+        self.entries
+            .reserve_exact(more.max(self.entries.capacity() / 8))
     }
 
     /// Puts an entry at the end.

@@ -1,3 +1,4 @@
+pub mod Held
 pub mod Text
 pub mod Names
 pub mod Columns

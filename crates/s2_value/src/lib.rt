@@ -3,6 +3,7 @@
 
 mod columns;
 mod hashing;
+mod held;
 mod laws;
 mod lists;
 mod names;

@@ -11,6 +11,7 @@ ghost use Rattle.std.specs.Cmp.Rules.{hashing};
 ghost use Rattle.std.proofs.Common.{rules, refl};
 ghost use Rattle.s2_value.specs.Text.{is_txt, is_text_bytes};
 
+use crate::held::Bytes;
 use crate::{Duplicate, Memory};
 use std::alloc::Global;
 use std::cmp::Ordering;
@@ -23,7 +24,7 @@ pub const MOST_TEXT_BYTES: usize = 255;
 /// A text of a row: UTF-8 of at most 255 bytes without the byte 0x0A. In contracts it is the list of its bytes.
 #[derive(Debug, Drop)]
 pub struct Txt {
-    bytes: Vec<u8>,
+    bytes: Bytes,
 }
 
 impl Model for Txt {
@@ -32,9 +33,9 @@ impl Model for Txt {
 
     ghost Value = { List ℕ };
 
-    ghost view = { λ t. t.bytes.items };
+    ghost view = { λ t. t.bytes };
 
-    ghost invariant = { λ t. is_txt t.bytes.items ≡ true };
+    ghost invariant = { λ t. is_txt t.bytes ≡ true };
 }
 
 /// Why bytes are no text.
@@ -61,7 +62,7 @@ impl Txt {
         if !are_text_bytes(bytes) {
             return Err(TxtErr::NotText);
         }
-        match Vec::from_slice(alloc, bytes) {
+        match Bytes::new(alloc, bytes) {
             Ok(bytes) => Ok(Txt { bytes }),
             Err(_) => Err(TxtErr::Memory),
         }
@@ -97,9 +98,8 @@ fn has_line_feed(bytes: &[u8]) -> bool
 
 impl Duplicate for Txt {
     fn copy(&self) -> Result<Self, Memory> {
-        let alloc = *self.bytes.allocator();
         Ok(Txt {
-            bytes: Vec::from_slice(alloc, self.bytes.as_slice())?,
+            bytes: self.bytes.copy()?,
         })
     }
 }

@@ -37,9 +37,9 @@ returns-clause-rows c =
     let places_at : Schema → List ℕ = λ schema. places_of schema c.args.j in
     let places : c.as_slice-places.result.now ≡ places_of s.schema c.args.j = c.as_slice-places.ensures ∙ c.key_columns.ensures ∙ ap places_at (c.requires.same ∙ sym (ap schema_of c.self.view_is)) in
     let R : List ℕ → List Value → Type 0 = λ ps k. IfOk c.rows_with_key.result (λ found. found.items ≡ filter (λ n. body_has ps k (body_at s.lines.entries n)) ids) in
-    let R1 : List ℕ → Type 0 = λ ps. R ps c.as_slice.result.now in
-    let R2 : List Value → Type 0 = λ k. R (places_of s.schema c.args.j) k in
-    let told = subst R2 c.as_slice.ensures (subst R1 places c.rows_with_key.ensures.rows) in
+    let AtPlaces : List ℕ → Type 0 = λ ps. R ps c.as_slice.result.now in
+    let AtKey : List Value → Type 0 = λ k. R (places_of s.schema c.args.j) k in
+    let told = subst AtKey c.as_slice.ensures (subst AtPlaces places c.rows_with_key.ensures.rows) in
     IfOk-weaker c.rows_with_key.result _ _
     (λ found e n.
     let F : Store → Bool = λ S. has_key S c.args.j c.args.key.now n in
