@@ -12,9 +12,9 @@ use crate::laws::runs_in_order_are_right;
 use crate::lines::take_line;
 use crate::replies::{no_replies, put, transcripts};
 use crate::turns::turn;
-use s2_model::{Line, LineList, Outcome, SaidList, Script};
+use s2_model::{Line, LineList, Options, Outcome, SaidList, Script};
 use s2_state::State;
-use s2_value::Memory;
+use s2_value::{Memory, Schema};
 use std::alloc::Global;
 
 /// Answers a line, and adds the reply to those of its session.
@@ -55,6 +55,19 @@ fn run_lines(alloc: Global, state: &mut State, lines: LineList) -> Result<Vec<Sa
     Ok(replies)
 }
 
+// The state of the empty history. Most lines make two entries; room for these is taken at once, as far as there is memory, so that the history isn't moved as it grows.
+fn start(alloc: Global, schema: Schema, options: Options, lines: usize) -> Result<State, Memory>
+    ensures good { IfOk result (λ s. Good s) }
+    ensures empty { IfOk result (λ s. history_of s ≡ []) }
+    ensures schema { IfOk result (λ s. s.schema ≡ schema) }
+    ensures options { IfOk result (λ s. s.options ≡ options) }
+{
+    let mut state = State::new(alloc, schema, options)?;
+    let entries = u32::try_from(lines.saturating_mul(2)).unwrap_or(0);
+    let _ = state.reserve(entries);
+    Ok(state)
+}
+
 /// Runs the lines of a script in their order: any sessions, with their transactions. The outcome is the history, and a transcript for each session that has a line.
 /// A SELECT, an UPDATE or a DELETE takes the time of all rows of the store, but where its condition fixes a key it looks up the rows that have it. An INSERT takes
 /// the time of its rows, with a few look-ups for each unique key. COMMIT and ROLLBACK take the time of what their transaction changed. The `Err` is want of memory.
@@ -68,7 +81,7 @@ pub fn drive_call(alloc: Global, script: Script) -> Result<Outcome, Memory>
         schema,
         lines,
     } = script;
-    let mut state = State::new(alloc, schema, options)?;
+    let mut state = start(alloc, schema, options, lines.len())?;
     let replies = run_lines(alloc, &mut state, lines)?;
     let transcripts = transcripts(alloc, replies)?;
     Ok(Outcome {

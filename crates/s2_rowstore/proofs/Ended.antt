@@ -165,13 +165,13 @@ end_committed t k time b e = go (own k b.1) refl e where
     split (inr s) = inr (s, ap is_some is)
 
 pub queued_committed : (E F : Ends) (old new : List (ℕ × Line)) (k time : ℕ) (ids : List ℕ) → KeepsPairs E F
-    → (F.whole ≡ true → (n : ℕ) → names_row ids n ≡ true → has_pair F.queue time n ≡ true)
+    → (F.whole ≡ true → (n : ℕ) → names_row ids n ≡ true → has_end time (body_at new n).0 ≡ true → has_pair F.queue time n ≡ true)
     → ((n : ℕ) → is_some (own k (body_at old n).1) ≡ true → names_row ids n ≡ true)
     → ((n : ℕ) → body_at new n ≡ committed k time (body_at old n)) → AreQueued E old → AreQueued F new
 queued_committed E F old new k time ids keeps added listed same all w n t e = split (end_committed t k time (body_at old n) (sym (ap (λ (b : Body). has_end t b.0) (same n)) ∙ e)) where
   split : (has_end t (body_at old n).0 ≡ true) ⊎ (((time == t) ≡ true) × (is_some (own k (body_at old n).1) ≡ true)) → has_pair F.queue t n ≡ true
   split (inl a) = (keeps w).1 n t (all (keeps w).0 n t a)
-  split (inr b) = ap (λ s. has_pair F.queue s n) (sym (eqb-true time t b.0)) ∙ added w n (listed n b.1)
+  split (inr b) = ap (λ s. has_pair F.queue s n) (sym (eqb-true time t b.0)) ∙ added w n (listed n b.1) (ap (λ s. has_end s (body_at new n).0) (eqb-true time t b.0) ∙ e)
 
 pub queued_ended : (E F : Ends) (old new : List (ℕ × Line)) (id time : ℕ) → KeepsPairs E F → (F.whole ≡ true → has_pair F.queue time id ≡ true)
     → ((n : ℕ) → body_at new n ≡ (if id == n then (ended time (body_at old n).0, (body_at old n).1) else body_at old n)) → AreQueued E old → AreQueued F new

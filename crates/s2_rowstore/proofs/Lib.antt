@@ -8,6 +8,7 @@ pub mod One
 pub mod Prepared
 pub mod Put
 pub mod Queue
+pub mod Retained
 pub mod Rising
 pub mod Stands
 pub mod Steps

@@ -1,18 +1,18 @@
 // The versions of one row, and its open write.
-ghost use Rattle.std.specs.Prelude.{◌≡◌, ◌<◌, ◌≤◌, ℕ, ◌++◌, ◌-◌, ◌&&◌, [], None, Some, OnOk, OnErr, is_some, not, true, vec_len, length, map};
+ghost use Rattle.std.specs.Prelude.{IfOk, ◌≡◌, ◌<◌, ◌≤◌, ◌++◌, [], None, Some, OnOk, not, length};
 ghost use Rattle.std.specs.Option.{option_copied, option_map};
-ghost use Rattle.std.specs.List.{list_any};
-ghost use Rattle.s2_rowstore.specs.Keys.{row_has, slot_has, body_has};
+ghost use Rattle.s2_rowstore.specs.Keys.{body_has};
 ghost use Rattle.s2_rowstore.specs.Lines.{cut_body, left_by};
+ghost use Rattle.s2_rowstore.specs.Ends.{has_end};
 ghost use Rattle.s2_rowstore.specs.Present.{is_present, is_free};
-ghost use Rattle.s2_rowstore.specs.Chains.{body, row_at, is_visible, is_living, living_since, ended, begun, own, chain_after, slot_after, seen, end_version, kept, is_done, is_empty_body};
+ghost use Rattle.s2_rowstore.specs.Chains.{body, living_since, ended, begun, own, chain_after, slot_after, seen, kept, is_empty_body};
 
-use crate::notes::row_has;
+use crate::versions::Versions;
 use s2_value::{Memory, Row, Seq, Value};
 use sqlite_items::Boxed;
 use std::alloc::Global;
+use std::default::MadeWith;
 use std::marker::Model;
-use std::mem;
 
 /// A version of a row: the row, when it began, and when it ended.
 #[derive(Debug, Drop)]
@@ -22,6 +22,17 @@ pub struct Version {
     pub stop: Option<u64>,
 }
 
+/// A blank version, for a place that none stands in.
+impl MadeWith<Global> for Version {
+    fn made_with(alloc: Global) -> Version {
+        Version {
+            row: Seq::new(alloc),
+            begin: 0,
+            stop: None,
+        }
+    }
+}
+
 /// The open write of a row: whose it is, and the row that it puts, or none where it drops the row. Few rows have one, so its row stands on the heap.
 #[derive(Debug, Drop)]
 pub struct Slot {
@@ -29,161 +40,28 @@ pub struct Slot {
     pub change: Boxed<Option<Row>>,
 }
 
-/// The versions of one row in the order of their beginning, and its open write.
+/// The versions of one row in the order of their beginning, and its open write, on the heap: so the map of all rows stays small.
 #[derive(Debug, Drop)]
 pub struct Chain {
-    versions: Vec<Version>,
-    slot: Option<Slot>,
+    held: Box<Versions>,
 }
 
 impl Model for Chain {
-    ghost use Rattle.std.specs.Prelude.{◌≡◌, ◌<◌, ◌-◌, true, is_some, vec_len, vec_capacity};
     ghost use Rattle.s2_rowstore.specs.Chains.{Line};
 
     ghost Value = { Line };
 
-    ghost view = { λ c. record { versions = c.versions.items; slot = c.slot; room = vec_capacity c.versions - vec_len c.versions } };
-
-    ghost invariant = { λ c. is_some c.slot ≡ true → vec_len c.versions < vec_capacity c.versions };
-}
-
-// The version ends, if it is living.
-fn end_version(version: &mut Version, time: u64)
-    ensures { version.new ≡ end_version time version.old }
-{
-    if version.stop.is_none() {
-        version.stop = Some(time);
-    }
-}
-
-// Ends the living version.
-fn end_living(versions: &mut [Version], time: u64)
-    ensures { versions.new ≡ ended time versions.old }
-{
-    for version in versions.iter_mut() {
-        end_version(version, time);
-    }
-}
-
-fn is_visible(version: &Version, r: u64) -> bool
-    ensures { result ≡ is_visible r version.now }
-{
-    let done = match version.stop {
-        Some(stop) => stop <= r,
-        None => false,
-    };
-    version.begin <= r && !done
-}
-
-fn row_at(versions: &[Version], r: u64) -> Option<&Row>
-    ensures { option_copied result ≡ row_at r versions.now }
-{
-    let mut left = versions;
-    while let [version, later @ ..] = left {
-        if is_visible(version, r) {
-            return Some(&version.row);
-        }
-        left = later;
-    }
-    None
-}
-
-fn living_since(versions: &[Version]) -> Option<u64>
-    ensures { result ≡ living_since versions.now }
-{
-    let mut left = versions;
-    while let [version, later @ ..] = left {
-        if version.stop.is_none() {
-            return Some(version.begin);
-        }
-        left = later;
-    }
-    None
-}
-
-fn any_has(versions: &[Version], places: &[u8], key: &[Value]) -> bool
-    ensures { result ≡ list_any (λ v. row_has places.now key.now v.row) versions.now }
-{
-    let mut left = versions;
-    while let [version, later @ ..] = left {
-        if row_has(places, key, version.row.as_slice()) {
-            return true;
-        }
-        left = later;
-    }
-    false
-}
-
-fn is_kept(version: &Version, h: u64) -> bool
-    ensures { result ≡ not (is_done h version.now.stop) }
-{
-    match version.stop {
-        Some(stop) => stop > h,
-        None => true,
-    }
-}
-
-fn is_kept_with(version: &Version, h: u64, places: &[u8], key: &[Value]) -> bool
-    ensures { result ≡ (not (is_done h version.now.stop) && row_has places.now key.now version.now.row) }
-{
-    is_kept(version, h) && row_has(places, key, version.row.as_slice())
-}
-
-fn any_kept_with(versions: &[Version], h: u64, places: &[u8], key: &[Value]) -> bool
-    ensures { result ≡ list_any (λ v. not (is_done h v.stop) && row_has places.now key.now v.row) versions.now }
-{
-    let mut left = versions;
-    while let [version, later @ ..] = left {
-        if is_kept_with(version, h, places, key) {
-            return true;
-        }
-        left = later;
-    }
-    false
-}
-
-fn any_kept_has(versions: &[Version], h: u64, places: &[u8], key: &[Value]) -> bool
-    ensures { result ≡ list_any (λ v. row_has places.now key.now v.row) (kept h versions.now) }
-{
-    any_kept_with(versions, h, places, key)
-}
-
-// Hands out the row of a version that ended at or before `h`.
-fn lend_row(alloc: Global, version: &mut Version, h: u64) -> Option<Row>
-    ensures stop { version.new.stop ≡ version.old.stop }
-    ensures kept { not (is_done h version.old.stop) ≡ true → version.new ≡ version.old }
-{
-    if is_kept(version, h) {
-        return None;
-    }
-    Some(mem::replace(&mut version.row, Seq::new(alloc)))
-}
-
-// Hands out the row of the version at place `i`, if it ended at or before `h`.
-fn lend_done(alloc: Global, versions: &mut [Version], i: usize, h: u64) -> Option<Row>
-    requires { i < length versions.old }
-    ensures { kept h versions.new ≡ kept h versions.old }
-{
-    lend_row(alloc, &mut versions[i], h)
-}
-
-// The row that an open write puts.
-fn row_of(slot: Option<Slot>) -> Option<Row> {
-    match slot {
-        Some(slot) => slot.change.into_inner(),
-        None => None,
-    }
+    ghost view = { λ c. c.held.value };
 }
 
 impl Chain {
     /// No version and no open write.
-    pub(crate) fn new(alloc: Global) -> Chain
-        ensures { body result ≡ ([], None) }
+    pub(crate) fn new(alloc: Global) -> Result<Chain, Memory>
+        ensures { IfOk result (λ chain. body chain ≡ ([], None)) }
     {
-        Chain {
-            versions: Vec::new(alloc),
-            slot: None,
-        }
+        Ok(Chain {
+            held: Box::new(alloc, Versions::new(alloc))?,
+        })
     }
 
     /// Makes room for so many more versions, and for the first ones no more than these: most rows have one version for long.
@@ -192,37 +70,28 @@ impl Chain {
         ensures room { OnOk result (more ≤ self.new.room) }
         ensures kept { self.old.room ≤ self.new.room }
     {
-        if self.versions.is_empty() {
-            return self.versions.reserve_exact(more);
-        }
-        self.versions.reserve(more)
+        self.held.reserve(more)
     }
 
     /// The row as the actor sees it at r.
     pub(crate) fn seen(&self, actor: u8, r: u64) -> Option<&Row>
         ensures { option_copied result ≡ seen actor r (body self.now) }
     {
-        match &self.slot {
-            Some(slot) if slot.holder == actor => slot.change.get().as_ref(),
-            _ => row_at(self.versions.as_slice(), r),
-        }
+        self.held.seen(actor, r)
     }
 
     /// When the living version began.
     pub(crate) fn living_since(&self) -> Option<u64>
         ensures { result ≡ living_since self.now.versions }
     {
-        living_since(self.versions.as_slice())
+        self.held.living_since()
     }
 
     /// Who has an open write of the row.
     pub(crate) fn holder(&self) -> Option<u8>
         ensures { result ≡ option_map (λ s. s.holder) self.now.slot }
     {
-        match &self.slot {
-            Some(slot) => Some(slot.holder),
-            None => None,
-        }
+        self.held.holder()
     }
 
     /// Sets the open write, and hands out the row of the one before it.
@@ -231,53 +100,28 @@ impl Chain {
         ensures same { body self.new ≡ (self.old.versions, Some slot) }
         ensures room { self.new.room ≡ self.old.room }
     {
-        let before = self.slot.take();
-        self.slot = Some(slot);
-        row_of(before)
+        self.held.put(slot)
     }
 
     /// The actor's open write, if it has one, takes effect at `time`.
     pub(crate) fn commit(&mut self, actor: u8, time: u64)
         ensures { body self.new ≡ (chain_after time (own actor self.old.slot) self.old.versions, slot_after actor self.old.slot) }
     {
-        if self.holder() != Some(actor) {
-            return;
-        }
-        let Some(slot) = self.slot.take() else {
-            return;
-        };
-        end_living(self.versions.as_mut_slice(), time);
-        if let Some(row) = slot.change.into_inner() {
-            let _ = self.versions.push(Version {
-                row,
-                begin: time,
-                stop: None,
-            });
-        }
+        self.held.commit(actor, time);
     }
 
     /// The actor's open write, if it has one, is forgotten, and its row handed out.
     pub(crate) fn undo(&mut self, actor: u8) -> Option<Row>
         ensures { body self.new ≡ (self.old.versions, slot_after actor self.old.slot) }
     {
-        if self.holder() != Some(actor) {
-            return None;
-        }
-        let gone = self.slot.take();
-        row_of(gone)
+        self.held.undo(actor)
     }
 
     /// The living version ends at `time`.
     pub(crate) fn end(&mut self, time: u64)
         ensures { body self.new ≡ (ended time self.old.versions, self.old.slot) }
     {
-        end_living(self.versions.as_mut_slice(), time);
-    }
-
-    fn forget(&mut self, h: u64)
-        ensures { body self.new ≡ (kept h self.old.versions, self.old.slot) }
-    {
-        self.versions.retain(|version| is_kept(version, h));
+        self.held.end(time);
     }
 
     /// Forgets the versions that ended at or before `h`, and answers whether something is left.
@@ -285,85 +129,56 @@ impl Chain {
         ensures after { body self.new ≡ (kept h self.old.versions, self.old.slot) }
         ensures left { result ≡ not (is_empty_body (body self.new)) }
     {
-        self.forget(h);
-        !self.is_empty()
+        self.held.cut(h)
+    }
+
+    /// Whether a version ended at `time`.
+    pub(crate) fn ended_at(&self, time: u64) -> bool
+        ensures { result ≡ has_end time self.now.versions }
+    {
+        self.held.ended_at(time)
     }
 
     /// How many versions there are.
     pub(crate) fn len(&self) -> usize
         ensures { result ≡ length self.now.versions }
     {
-        self.versions.len()
+        self.held.len()
     }
 
     /// Hands out the row of the version at place `i`, if it ended at or before `h`: such a version is to be forgotten.
     pub(crate) fn lend_done(&mut self, i: usize, h: u64) -> Option<Row>
         ensures { cut_body h (body self.new) ≡ cut_body h (body self.old) }
     {
-        if i >= self.versions.len() {
-            return None;
-        }
-        let alloc = *self.versions.allocator();
-        lend_done(alloc, self.versions.as_mut_slice(), i, h)
-    }
-
-    fn kept_has(&self, h: u64, places: &[u8], key: &[Value]) -> bool
-        ensures { result ≡ body_has places.now key.now (cut_body h (body self.now)) }
-    {
-        any_kept_has(self.versions.as_slice(), h, places, key) || self.slot_has(places, key)
+        self.held.lend_done(i, h)
     }
 
     /// The same where of the versions only those count that a cut at `h` keeps, or all.
     pub(crate) fn keeps_key(&self, h: Option<u64>, places: &[u8], key: &[Value]) -> bool
         ensures { result ≡ body_has places.now key.now (left_by h (body self.now)) }
     {
-        match h {
-            Some(h) => self.kept_has(h, places, key),
-            None => self.has_key(places, key),
-        }
+        self.held.keeps_key(h, places, key)
     }
 
     /// Whether some version or the open write has the key at these places.
     pub(crate) fn has_key(&self, places: &[u8], key: &[Value]) -> bool
         ensures { result ≡ body_has places.now key.now (body self.now) }
     {
-        any_has(self.versions.as_slice(), places, key) || self.slot_has(places, key)
-    }
-
-    fn slot_has(&self, places: &[u8], key: &[Value]) -> bool
-        ensures { result ≡ slot_has places.now key.now self.now.slot }
-    {
-        let Some(slot) = &self.slot else {
-            return false;
-        };
-        match slot.change.get() {
-            Some(row) => row_has(places, key, row.as_slice()),
-            None => false,
-        }
+        self.held.has_key(places, key)
     }
 
     /// Whether there is a living version or an open write.
     pub(crate) fn is_present(&self) -> bool
         ensures { result ≡ is_present (body self.now) }
     {
-        self.living_since().is_some() || self.slot.is_some()
+        self.held.is_present()
     }
 
     /// Whether there is a living version that began by `r`, and no open write.
     pub(crate) fn is_free(&self, r: u64) -> bool
         ensures { result ≡ is_free r (body self.now) }
     {
-        match self.living_since() {
-            Some(begin) => begin <= r && self.slot.is_none(),
-            None => false,
-        }
-    }
-
-    // Whether there is neither a version nor an open write.
-    fn is_empty(&self) -> bool
-        ensures { result ≡ is_empty_body (body self.now) }
-    {
-        self.versions.is_empty() && self.slot.is_none()
+        self.held.is_free(r)
     }
 
     /// Begins a version at `time`.
@@ -371,10 +186,6 @@ impl Chain {
         requires { 1 < self.old.room }
         ensures { body self.new ≡ (self.old.versions ++ begun time (Some row), self.old.slot) }
     {
-        let _ = self.versions.push(Version {
-            row,
-            begin: time,
-            stop: None,
-        });
+        self.held.begin(row, time);
     }
 }

@@ -1,12 +1,11 @@
 // The rows with a version that ended, by the time of its end, so that a cut visits no others.
 ghost use Rattle.std.specs.Prelude.{◌≡◌, ◌<◌, ◌≤◌, ℕ, ◌∷◌, ◌++◌, [], None, true, false, nat_le, not, IfSome, OnOk};
 ghost use Rattle.std.specs.List.{list_all};
-ghost use Rattle.s2_rowstore.specs.Lines.{names_row};
 ghost use Rattle.s2_rowstore.specs.Ends.{are_by, has_pair, KeepsPairs};
 
 use s2_value::Memory;
 use std::alloc::Global;
-use std::collections::{BTreeSet, VecDeque};
+use std::collections::VecDeque;
 use std::marker::Model;
 
 /// Pairs of a time and a row, by time. Where times fell, or there was no room, not every end is among them.
@@ -92,15 +91,5 @@ impl Ends {
         }
         let (_, id) = self.queue.pop_front()?;
         Some(id)
-    }
-}
-
-/// Puts a pair for each of the rows behind the others.
-pub(crate) fn push_all(ends: &mut Ends, ids: &BTreeSet<u64>, time: u64)
-    ensures kept { KeepsPairs ends.old ends.new }
-    ensures added { ends.new.whole ≡ true → (n : ℕ) → names_row ids.now.keys n ≡ true → has_pair ends.new.queue time n ≡ true }
-{
-    for id in ids {
-        ends.push(time, *id);
     }
 }

@@ -12,6 +12,7 @@ mod present;
 mod ready;
 mod store;
 mod unnoted;
+mod versions;
 
 pub use chain::{Slot, Version};
 pub use laws::rising_lists_are_one;

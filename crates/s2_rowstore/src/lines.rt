@@ -9,7 +9,7 @@ ghost use Rattle.std.specs.Ordering.{nat_cmp};
 ghost use Rattle.std.specs.List.Sorted.{IsStrictlySortedBy};
 ghost use Rattle.s2_rowstore.specs.Visible.{visible_in, numbers, lent};
 ghost use Rattle.s2_rowstore.specs.Lines.{line_at, body_at, for_row, names_row, are_apart, have_room, with_begun, with_slot, committed, undone, cut_body};
-ghost use Rattle.s2_rowstore.specs.Ends.{AreQueued};
+ghost use Rattle.s2_rowstore.specs.Ends.{AreQueued, KeepsPairs, has_end, has_pair};
 ghost use Rattle.s2_rowstore.specs.Store.{KeepsBut, KeepsHad};
 ghost use Rattle.s2_value.specs.Schemas.{keys_of};
 
@@ -54,7 +54,7 @@ pub(crate) fn reserve_line(
     if let Some(chain) = lines.get_mut(&id) {
         return chain.reserve(more);
     }
-    let mut chain = Chain::new(alloc);
+    let mut chain = Chain::new(alloc)?;
     chain.reserve(more)?;
     lines.insert(id, chain)?;
     Ok(())
@@ -97,6 +97,36 @@ pub(crate) fn commit_line(lines: &mut Lines, id: u64, actor: u8, time: u64)
 {
     if let Some(chain) = lines.get_mut(&id) {
         chain.commit(actor, time);
+    }
+}
+
+// Whether a version of the row ended at `time`.
+fn ended_at(lines: &Lines, id: u64, time: u64) -> bool
+    ensures { result ≡ has_end time (body_at lines.now.entries id).0 }
+{
+    match lines.get(&id) {
+        Some(chain) => chain.ended_at(time),
+        None => false,
+    }
+}
+
+// Puts a pair behind the others, if a version of the row ended at `time`.
+fn queue_ended(ends: &mut Ends, lines: &Lines, id: u64, time: u64)
+    ensures kept { KeepsPairs ends.old ends.new }
+    ensures added { ends.new.whole ≡ true → has_end time (body_at lines.now.entries id).0 ≡ true → has_pair ends.new.queue time id ≡ true }
+{
+    if ended_at(lines, id, time) {
+        ends.push(time, id);
+    }
+}
+
+/// Puts a pair behind the others for each of the rows of which a version ended at `time`.
+pub(crate) fn queue_all(ends: &mut Ends, lines: &Lines, ids: &BTreeSet<u64>, time: u64)
+    ensures kept { KeepsPairs ends.old ends.new }
+    ensures added { ends.new.whole ≡ true → (n : ℕ) → names_row ids.now.keys n ≡ true → has_end time (body_at lines.now.entries n).0 ≡ true → has_pair ends.new.queue time n ≡ true }
+{
+    for id in ids {
+        queue_ended(ends, lines, *id, time);
     }
 }
 

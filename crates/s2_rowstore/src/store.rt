@@ -10,10 +10,10 @@ ghost use Rattle.s2_rowstore.specs.Visible.{are_rising, numbers, lent};
 
 use crate::chain::{Slot, Version};
 use crate::copies::copy_schema;
-use crate::ends::{Ends, push_all};
+use crate::ends::Ends;
 use crate::lines::{
-    Lines, begin_all, boxed, commit_all, cut_rows, end_line, lent_rows, put_all, row_since,
-    rows_with_key, seen_row, undo_all, visible_rows,
+    Lines, begin_all, boxed, commit_all, cut_rows, end_line, lent_rows, put_all, queue_all,
+    row_since, rows_with_key, seen_row, undo_all, visible_rows,
 };
 use crate::notes::Notes;
 use crate::present::{changed_rows, drop_absent, drop_all_absent, first_free, list_rows};
@@ -122,7 +122,7 @@ impl Rowstore {
     {
         let ids = &mut self.changed[actor as usize];
         commit_all(&mut self.lines, ids, actor, time);
-        push_all(&mut self.ends, ids, time);
+        queue_all(&mut self.ends, &self.lines, ids, time);
         drop_all_absent(&mut self.present, &self.lines, ids);
         ids.clear();
     }

@@ -2,7 +2,7 @@ use Rattle.std.proofs.Common.{◌≡◌, ◌&&◌, not, length}
 use Rattle.std.specs.List.{list_any}
 use Rattle.s2_rowstore.specs.Chains.{is_done}
 use Rattle.s2_rowstore.specs.Keys.{row_has}
-use Rattle.s2_rowstore.proofs.chain.any_kept_with.Given as goal
+use Rattle.s2_rowstore.proofs.versions.any_kept_with.Given as goal
 
 abbrev pub invariant-loop-left : goal.invariant-loop-left
 invariant-loop-left l = list_any (λ v. not (is_done l.h v.stop) && row_has l.places l.key v.row) l.left ≡ list_any (λ v. not (is_done l.h v.stop) && row_has l.places l.key v.row) l.versions

@@ -1,7 +1,7 @@
 use Rattle.std.proofs.Common.{◌∙◌, ap, sym, slice_set, arith}
 use Rattle.std.proofs.lemmas.List.Edits.{map_over_more}
 use Rattle.s2_rowstore.specs.Chains.{end_version}
-use Rattle.s2_rowstore.proofs.chain.end_living.Goals as goal
+use Rattle.s2_rowstore.proofs.versions.end_living.Goals as goal
 
 pub loop-version-preserved : goal.loop-version-preserved
 loop-version-preserved c =
