@@ -1,5 +1,5 @@
 //! The top call.
-ghost use Rattle.std.specs.Prelude.{◌≡◌, ◌⊎◌, map, IfOk, IfSome};
+ghost use Rattle.std.specs.Prelude.{◌≡◌, ◌⊎◌, [], map, IfOk, IfSome};
 ghost use Rattle.std.specs.String.{string_bytes};
 ghost use Rattle.s2_outside.specs.Told.{Told};
 ghost use Rattle.s2_outside.specs.Count.{Rose};
@@ -28,12 +28,25 @@ const SINK_FAULT: u8 = 5;
 /// The status of a run without memory.
 const NO_MEMORY: u8 = 6;
 
+/// How many bytes the line of an entry, with its part of a reply's line, rarely is longer than.
+const BYTES_AN_ENTRY: usize = 64;
+
 fn most_bytes(mode: Mode) -> usize
     ensures { result ≡ most_bytes mode }
 {
     match mode {
         Mode::Drive => 16_777_216,
         Mode::Check => 268_435_456,
+    }
+}
+
+// No text, with room for that of a run of so many entries, as far as there is memory: so the text is seldom moved as it grows.
+fn no_text(alloc: Global, entries: usize) -> Vec<u8>
+    ensures { result.items ≡ [] }
+{
+    match Vec::with_capacity(alloc, entries.saturating_mul(BYTES_AN_ENTRY)) {
+        Ok(text) => text,
+        Err(_) => Vec::new(alloc),
     }
 }
 
@@ -45,7 +58,7 @@ fn run_script(alloc: Global, script: Script) -> Result<Vec<u8>, Memory>
         history,
         transcripts,
     } = drive_call(alloc, script)?;
-    let mut text = Vec::new(alloc);
+    let mut text = no_text(alloc, history.len());
     print_transcripts(&transcripts, &mut text)?;
     drop(transcripts);
     print_history(&history, &mut text)?;
