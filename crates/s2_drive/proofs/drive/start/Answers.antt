@@ -4,4 +4,4 @@ use Rattle.s2_drive.proofs.drive.start.Goals as goal
 
 pub returns-clause-good : goal.returns-clause-good
 returns-clause-good c =
-    roomier_good c.in_ok-state.state c.reserve.new.state c.in_ok-state.ensures.good c.reserve.ensures.parts c.reserve.ensures.history c.reserve.ensures.kept
+    roomier_good c.in_ok-state.state c.reserve.new.self c.in_ok-state.ensures.good c.reserve.ensures.parts c.reserve.ensures.history c.reserve.ensures.kept
