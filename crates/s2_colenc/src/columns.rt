@@ -1,5 +1,5 @@
 //! A whole column block, read in place.
-ghost use Rattle.std.specs.Prelude.{◌≡◌, ◌+◌, ◌<◌, ◌≤◌, true, length, sum, slice_index, slice_index_or, IfOk};
+ghost use Rattle.std.specs.Prelude.{◌≡◌, ◌+◌, ◌<◌, ◌≤◌, true, length, sum, slice_index, slice_index_or, Ok, IfOk, IsOk};
 ghost use Rattle.std.specs.Option.{option_copied};
 ghost use Rattle.s2_colbytes.specs.Reading.{Gives};
 ghost use Rattle.s2_colenc.specs.Column.{column_at, values_of, is_whole, lens_of, codes_of, entries_of, run_of, form_in};
@@ -31,13 +31,14 @@ impl<'a> Model for Column<'a> {
     ghost invariant = { λ c. is_whole c.body ≡ true };
 }
 
-// What all the bytes after the tag are.
+// What all the bytes after the tag are. Of what was judged before no value is checked again.
 #[tactic(auto, unfolding(crate::specs::Column::column_at))]
-fn read_whole(kind: ColType, n: u32, bytes: &[u8]) -> Result<Body<'_>, ColErr>
+fn read_whole(kind: ColType, n: u32, judged: bool, bytes: &[u8]) -> Result<Body<'_>, ColErr>
+    requires { judged ≡ true → IsOk (column_at kind n bytes.now) }
     ensures { Gives (λ x. x) result (column_at kind n bytes.now) }
 {
     let (form, rest) = split_tag(kind, bytes)?;
-    let (body, rest) = read_body(kind, n, form, rest)?;
+    let (body, rest) = read_body(kind, n, form, judged, rest)?;
     end(body, rest)
 }
 
@@ -65,8 +66,20 @@ impl<'a> Column<'a> {
         ensures gives { Gives (λ x. x) result (column_at kind n bytes.now) }
         ensures count { IfOk result (λ x. length (values_of x) ≡ n) }
     {
-        let body = read_whole(kind, n, bytes)?;
+        let body = read_whole(kind, n, false, bytes)?;
         Ok(Column { body })
+    }
+
+    /// The column of a block that was read before, without its checks. It takes constant time.
+    pub fn again(kind: ColType, n: u32, bytes: &'a [u8]) -> Column<'a>
+        requires { IsOk (column_at kind n bytes.now) }
+        ensures gives { column_at kind n bytes.now ≡ Ok result }
+        ensures count { length (values_of result) ≡ n }
+    {
+        match read_whole(kind, n, true, bytes) {
+            Ok(body) => Column { body },
+            Err(_) => unreachable!(),
+        }
     }
 
     /// Value `i`, from 0. It takes constant time, in a column of runs a step for each run up to the value's; a text is

@@ -1,5 +1,5 @@
 //! The parts of a column block, read in place.
-ghost use Rattle.std.specs.Prelude.{◌≡◌, ◌<◌, ◌≤◌, length, slice_index_or, IfOk};
+ghost use Rattle.std.specs.Prelude.{◌≡◌, ◌<◌, ◌≤◌, true, length, slice_index_or, IfOk, IsOk};
 ghost use Rattle.s2_colbytes.specs.Reading.{Gives};
 ghost use Rattle.s2_colenc.specs.Column.{entries_at, dictionary_at, runs_at, body_at, entry_values};
 
@@ -45,13 +45,16 @@ pub fn text_value(alloc: Global, bytes: &[u8]) -> Result<Value, Memory>
 }
 
 impl<'a> Entries<'a> {
-    /// The `n` values at the front of the bytes, and the bytes after them, or the first fault of their form.
+    /// The `n` values at the front of the bytes, and the bytes after them, or the first fault of their form. Of what was
+    /// judged before no value is checked again.
     #[tactic(auto, unfolding(crate::specs::Column::entries_at))]
     pub fn read_front(
         kind: ColType,
         n: u32,
+        judged: bool,
         bytes: &'a [u8],
     ) -> Result<(Entries<'a>, &'a [u8]), ColErr>
+        requires { judged ≡ true → IsOk (entries_at kind n bytes.now) }
         ensures { Gives (λ x. (x.0, x.1.now)) result (entries_at kind n bytes.now) }
     {
         match kind {
@@ -60,7 +63,7 @@ impl<'a> Entries<'a> {
                 Ok((Entries::Ints(ints), rest))
             }
             ColType::Text => {
-                let (texts, rest) = PlainText::read_front(n, bytes)?;
+                let (texts, rest) = PlainText::read_front(n, judged, bytes)?;
                 Ok((Entries::Texts(texts), rest))
             }
         }
@@ -90,34 +93,44 @@ impl<'a> Entries<'a> {
 
 // The values of the dictionary and the codes: `Short` of the count, the values' faults, then those of the codes.
 #[tactic(auto, unfolding(crate::specs::Column::dictionary_at))]
-fn read_dictionary(kind: ColType, n: u32, bytes: &[u8]) -> Result<(Body<'_>, &[u8]), ColErr>
+fn read_dictionary(
+    kind: ColType,
+    n: u32,
+    judged: bool,
+    bytes: &[u8],
+) -> Result<(Body<'_>, &[u8]), ColErr>
+    requires { judged ≡ true → IsOk (dictionary_at kind n bytes.now) }
     ensures { Gives (λ x. (x.0, x.1.now)) result (dictionary_at kind n bytes.now) }
 {
     let (count, rest) = split_u32(bytes)?;
-    let (dict, rest) = Entries::read_front(kind, count, rest)?;
-    let (codes, rest) = Codes::read_front(n, count, rest)?;
+    let (dict, rest) = Entries::read_front(kind, count, judged, rest)?;
+    let (codes, rest) = Codes::read_front(n, count, judged, rest)?;
     Ok((Body::Dictionary(dict, codes), rest))
 }
 
 // The runs' lengths and values: `Short` of the count, the lengths' faults, then those of the values.
 #[tactic(auto, unfolding(crate::specs::Column::runs_at))]
-fn read_runs(kind: ColType, n: u32, bytes: &[u8]) -> Result<(Body<'_>, &[u8]), ColErr>
+fn read_runs(kind: ColType, n: u32, judged: bool, bytes: &[u8]) -> Result<(Body<'_>, &[u8]), ColErr>
+    requires { judged ≡ true → IsOk (runs_at kind n bytes.now) }
     ensures { Gives (λ x. (x.0, x.1.now)) result (runs_at kind n bytes.now) }
 {
     let (count, rest) = split_u32(bytes)?;
-    let (lens, rest) = RunLens::read_front(n, count, rest)?;
-    let (vals, rest) = Entries::read_front(kind, count, rest)?;
+    let (lens, rest) = RunLens::read_front(n, count, judged, rest)?;
+    let (vals, rest) = Entries::read_front(kind, count, judged, rest)?;
     Ok((Body::Runs(lens, vals), rest))
 }
 
-/// The body of the form at the front of the bytes, and the bytes after it, or the first fault.
+/// The body of the form at the front of the bytes, and the bytes after it, or the first fault. Of what was judged before
+/// no value is checked again.
 #[tactic(auto, unfolding(crate::specs::Column::body_at))]
 pub fn read_body(
     kind: ColType,
     n: u32,
     form: Form,
+    judged: bool,
     bytes: &[u8],
 ) -> Result<(Body<'_>, &[u8]), ColErr>
+    requires { judged ≡ true → IsOk (body_at kind n form bytes.now) }
     ensures { Gives (λ x. (x.0, x.1.now)) result (body_at kind n form bytes.now) }
 {
     match form {
@@ -126,14 +139,14 @@ pub fn read_body(
             Ok((Body::Ints(ints), rest))
         }
         Form::PackedInt => {
-            let (ints, rest) = Packed::read_front(n, bytes)?;
+            let (ints, rest) = Packed::read_front(n, judged, bytes)?;
             Ok((Body::Packed(ints), rest))
         }
         Form::PlainText => {
-            let (texts, rest) = PlainText::read_front(n, bytes)?;
+            let (texts, rest) = PlainText::read_front(n, judged, bytes)?;
             Ok((Body::Texts(texts), rest))
         }
-        Form::Dictionary => read_dictionary(kind, n, bytes),
-        Form::Runs => read_runs(kind, n, bytes),
+        Form::Dictionary => read_dictionary(kind, n, judged, bytes),
+        Form::Runs => read_runs(kind, n, judged, bytes),
     }
 }

@@ -5,7 +5,7 @@ use Rattle.std.proofs.lemmas.List.{length-drop}
 use Rattle.byteorder.specs.Endian.{little_number}
 use Rattle.s2_value.specs.Text.{is_text_bytes}
 use Rattle.s2_colbytes.specs.Numbers.{numbers}
-use Rattle.s2_colbytes.proofs.Lists.{drop-drop, get_or-numbers}
+use Rattle.s2_colbytes.proofs.Lists.{drop-drop, length-numbers, get_or-numbers}
 use Rattle.s2_colplain.specs.Texts.{are_ends, last_end, cut_at, are_texts, start_at}
 
 pub and_true : (a b : Bool) → (a && b) ≡ true → (a ≡ true) × (b ≡ true)
@@ -69,6 +69,18 @@ text_of_all (t ∷ ts) (suc i) h l = text_of_all ts i (and_true (is_text_bytes t
 pub start_at-is : (n i : ℕ) (ends : List ℕ) → i < n → start_at i ends ≡ get_or (0 ∷ numbers 4 n ends) i 0
 start_at-is n zero ends l = refl
 start_at-is n (suc i) ends l = sym (get_or-numbers 4 n i ends (omega arith))
+
+last_end-is : (start : ℕ) (es : List ℕ) → last_end start es ≡ get_or (start ∷ es) (length es) 0
+last_end-is start [] = refl
+last_end-is start (e ∷ es) = last_end-is e es
+
+-- one more text would begin where the last one ends
+pub start_at-last : (n : ℕ) (ends : List ℕ) → start_at n ends ≡ last_end 0 (numbers 4 n ends)
+start_at-last zero ends = refl
+start_at-last (suc n) ends =
+    sym (get_or-numbers 4 (suc n) n ends (omega arith))
+    ∙ ap (λ (k : ℕ). get_or (numbers 4 (suc n) ends) k 0) (sym (length-numbers 4 n (drop 4 ends)))
+    ∙ sym (last_end-is 0 (numbers 4 (suc n) ends))
 
 -- the next of the ends that are left
 pub numbers_next : (n k : ℕ) (bs : List ℕ) → k < n → numbers 4 (n - k) bs ≡ little_number 4 bs ∷ numbers 4 (n - (k + 1)) (drop 4 bs)

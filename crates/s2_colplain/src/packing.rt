@@ -1,5 +1,5 @@
 //! Packed numbers: a base, a width, and for each number its distance from the base in as many bits.
-ghost use Rattle.std.specs.Prelude.{◌≡◌, ◌+◌, ◌-◌, ◌*◌, ◌^◌, ◌<◌, ◌≤◌, ◌||◌, length, take, drop, pos, ◌+ℤ◌, slice_index_or, IfOk, FitsSigned};
+ghost use Rattle.std.specs.Prelude.{◌≡◌, ◌+◌, ◌-◌, ◌*◌, ◌^◌, ◌<◌, ◌≤◌, ◌||◌, false, true, length, take, drop, pos, ◌+ℤ◌, slice_index_or, IfOk, IsOk, FitsSigned};
 ghost use Rattle.std.specs.Int.{w64};
 ghost use Rattle.std.specs.List.{list_any};
 ghost use Rattle.s2_colbytes.specs.Reading.{Gives, to_the_end};
@@ -112,6 +112,19 @@ fn has_over(base: i64, width: u32, count: u32, bytes: &[u8]) -> bool
     false
 }
 
+// Whether the base plus some field is above the greatest number. Of what was judged before none is.
+fn is_wrong(base: i64, width: u32, count: u32, bytes: &[u8], judged: bool) -> bool
+    requires narrow { width ≤ 63 }
+    requires whole { count * width ≤ 8 * length bytes.now }
+    requires judged { judged ≡ true → list_any is_over (unpacked base width count bytes.now) ≡ false }
+    ensures { result ≡ list_any is_over (unpacked base width count bytes.now) }
+{
+    if judged {
+        return false;
+    }
+    has_over(base, width, count, bytes)
+}
+
 // The base, the width and the bytes after them.
 #[tactic(auto, unfolding(crate::specs::Packed::head_at))]
 fn split_head(bytes: &[u8]) -> Result<(i64, u32, &[u8]), ColErr>
@@ -129,14 +142,20 @@ fn split_head(bytes: &[u8]) -> Result<(i64, u32, &[u8]), ColErr>
 
 impl<'a> Packed<'a> {
     /// The `n` numbers at the front of the bytes, and the bytes after them: `Short` of base and width, `BadWidth`,
-    /// `Short`, `Overflow`. It takes time for the bytes that are there, whatever `n` is.
+    /// `Short`, `Overflow`. It takes time for the bytes that are there, whatever `n` is. Of what was judged before no
+    /// number is looked at again, so that takes constant time.
     #[tactic(auto, unfolding(crate::specs::Packed::packed_at))]
-    pub fn read_front(n: u32, bytes: &'a [u8]) -> Result<(Packed<'a>, &'a [u8]), ColErr>
+    pub fn read_front(
+        n: u32,
+        judged: bool,
+        bytes: &'a [u8],
+    ) -> Result<(Packed<'a>, &'a [u8]), ColErr>
+        requires { judged ≡ true → IsOk (packed_at n bytes.now) }
         ensures { Gives (λ x. (x.0, x.1.now)) result (packed_at n bytes.now) }
     {
         let (base, width, rest) = split_head(bytes)?;
         let (body, rest) = split_front(rest, (u64::from(n) * u64::from(width)).div_ceil(8))?;
-        if has_over(base, width, n, body) {
+        if is_wrong(base, width, n, body, judged) {
             return Err(ColErr::Overflow);
         }
         Ok((
@@ -154,7 +173,7 @@ impl<'a> Packed<'a> {
     pub fn read(n: u32, bytes: &'a [u8]) -> Result<Packed<'a>, ColErr>
         ensures { Gives (λ x. x) result (to_the_end (packed_at n bytes.now)) }
     {
-        let (column, rest) = Packed::read_front(n, bytes)?;
+        let (column, rest) = Packed::read_front(n, false, bytes)?;
         end(column, rest)
     }
 

@@ -1,5 +1,5 @@
 //! Plain texts: where each ends, then the bytes of all.
-ghost use Rattle.std.specs.Prelude.{◌≡◌, ℕ, List, ◌+◌, ◌*◌, ◌<◌, ◌≤◌, ◌-◌, ◌++◌, true, [], length, take, drop, map, slice_index_or, vec_len, vec_capacity, OnOk, OnErr};
+ghost use Rattle.std.specs.Prelude.{◌≡◌, ℕ, List, ◌+◌, ◌*◌, ◌<◌, ◌≤◌, ◌-◌, ◌++◌, true, [], length, take, drop, map, slice_index_or, vec_len, vec_capacity, OnOk, OnErr, IsOk};
 ghost use Rattle.std.specs.List.{sum_by, concat};
 ghost use Rattle.s2_colbytes.specs.Reading.{Gives, to_the_end};
 ghost use Rattle.s2_colbytes.specs.Numbers.{numbers, spelled};
@@ -110,19 +110,24 @@ fn are_ends(ends: &[u8], count: u32) -> bool
     true
 }
 
-// Where the last text ends.
+// Where the last text ends: where one more would begin.
 fn last_end(ends: &[u8], count: u32) -> u32
     requires { length ends.now ≡ 4 * count }
     ensures { result ≡ last_end 0 (numbers 4 count ends.now) }
 {
-    let mut last = 0;
-    let mut rest = ends;
-    for _ in 0..count {
-        let (end, after) = split_end(rest);
-        last = end;
-        rest = after;
+    start_of(ends, count)
+}
+
+// Whether no end is below the one before, and none more than 255 above it. Of what was judged before none is.
+fn are_right_ends(ends: &[u8], count: u32, judged: bool) -> bool
+    requires whole { length ends.now ≡ 4 * count }
+    requires judged { judged ≡ true → are_ends 0 (numbers 4 count ends.now) ≡ true }
+    ensures { result ≡ are_ends 0 (numbers 4 count ends.now) }
+{
+    if judged {
+        return true;
     }
-    last
+    are_ends(ends, count)
 }
 
 // Whether each text is UTF-8 without a line feed.
@@ -148,19 +153,39 @@ fn are_texts(ends: &[u8], count: u32, bytes: &[u8]) -> bool
     true
 }
 
+// Whether each text is UTF-8 without a line feed. Of what was judged before each is.
+fn are_right_texts(ends: &[u8], count: u32, bytes: &[u8], judged: bool) -> bool
+    requires whole { length ends.now ≡ 4 * count }
+    requires rising { are_ends 0 (numbers 4 count ends.now) ≡ true }
+    requires last { last_end 0 (numbers 4 count ends.now) ≡ length bytes.now }
+    requires judged { judged ≡ true → are_texts (cut_at 0 (numbers 4 count ends.now) bytes.now) ≡ true }
+    ensures { result ≡ are_texts (cut_at 0 (numbers 4 count ends.now) bytes.now) }
+{
+    if judged {
+        return true;
+    }
+    are_texts(ends, count, bytes)
+}
+
 impl<'a> PlainText<'a> {
     /// The `n` texts at the front of the bytes, and the bytes after them: `Short` of the ends, `BadLength` over all
-    /// ends, `Short` of the bytes, `NotText`.
+    /// ends, `Short` of the bytes, `NotText`. Of what was judged before no end and no text is looked at again but the
+    /// last end, so that takes constant time.
     #[tactic(auto, unfolding(crate::specs::Texts::texts_at))]
-    pub fn read_front(n: u32, bytes: &'a [u8]) -> Result<(PlainText<'a>, &'a [u8]), ColErr>
+    pub fn read_front(
+        n: u32,
+        judged: bool,
+        bytes: &'a [u8],
+    ) -> Result<(PlainText<'a>, &'a [u8]), ColErr>
+        requires { judged ≡ true → IsOk (texts_at n bytes.now) }
         ensures { Gives (λ x. (x.0, x.1.now)) result (texts_at n bytes.now) }
     {
         let (ends, rest) = split_front(bytes, 4 * u64::from(n))?;
-        if !are_ends(ends, n) {
+        if !are_right_ends(ends, n, judged) {
             return Err(ColErr::BadLength);
         }
         let (body, rest) = split_front(rest, u64::from(last_end(ends, n)))?;
-        if !are_texts(ends, n, body) {
+        if !are_right_texts(ends, n, body, judged) {
             return Err(ColErr::NotText);
         }
         Ok((
@@ -177,7 +202,7 @@ impl<'a> PlainText<'a> {
     pub fn read(n: u32, bytes: &'a [u8]) -> Result<PlainText<'a>, ColErr>
         ensures { Gives (λ x. x) result (to_the_end (texts_at n bytes.now)) }
     {
-        let (column, rest) = PlainText::read_front(n, bytes)?;
+        let (column, rest) = PlainText::read_front(n, false, bytes)?;
         end(column, rest)
     }
 

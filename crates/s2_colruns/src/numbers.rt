@@ -1,5 +1,5 @@
 //! Codes: for each value its place in a dictionary, in two bytes.
-ghost use Rattle.std.specs.Prelude.{◌≡◌, ◌*◌, ◌<◌, length, slice_index};
+ghost use Rattle.std.specs.Prelude.{◌≡◌, ◌*◌, ◌<◌, false, true, length, slice_index, IsOk};
 ghost use Rattle.s2_colbytes.specs.Reading.{Gives, to_the_end};
 ghost use Rattle.s2_colbytes.specs.Numbers.{numbers};
 ghost use Rattle.s2_colruns.specs.Codes.{codes_at, has_bad_code};
@@ -38,14 +38,33 @@ fn has_bad_code(bytes: &[u8], count: u32, d: u32) -> bool
     false
 }
 
+// Whether some code isn't below `d`. Of those that were judged before each is.
+fn is_wrong(bytes: &[u8], count: u32, d: u32, judged: bool) -> bool
+    requires whole { length bytes.now ≡ 2 * count }
+    requires judged { judged ≡ true → has_bad_code d (numbers 2 count bytes.now) ≡ false }
+    ensures { result ≡ has_bad_code d (numbers 2 count bytes.now) }
+{
+    if judged {
+        return false;
+    }
+    has_bad_code(bytes, count, d)
+}
+
 impl<'a> Codes<'a> {
-    /// The `n` codes below `d` at the front of the bytes, and the bytes after them: `Short`, `BadCode`.
+    /// The `n` codes below `d` at the front of the bytes, and the bytes after them: `Short`, `BadCode`. Of what was
+    /// judged before no code is looked at again, so that takes constant time.
     #[tactic(auto, unfolding(crate::specs::Codes::codes_at))]
-    pub fn read_front(n: u32, d: u32, bytes: &'a [u8]) -> Result<(Codes<'a>, &'a [u8]), ColErr>
+    pub fn read_front(
+        n: u32,
+        d: u32,
+        judged: bool,
+        bytes: &'a [u8],
+    ) -> Result<(Codes<'a>, &'a [u8]), ColErr>
+        requires { judged ≡ true → IsOk (codes_at n d bytes.now) }
         ensures { Gives (λ x. (x.0, x.1.now)) result (codes_at n d bytes.now) }
     {
         let (body, rest) = split_front(bytes, 2 * u64::from(n))?;
-        if has_bad_code(body, n, d) {
+        if is_wrong(body, n, d, judged) {
             return Err(ColErr::BadCode);
         }
         Ok((
@@ -61,7 +80,7 @@ impl<'a> Codes<'a> {
     pub fn read(n: u32, d: u32, bytes: &'a [u8]) -> Result<Codes<'a>, ColErr>
         ensures { Gives (λ x. x) result (to_the_end (codes_at n d bytes.now)) }
     {
-        let (codes, rest) = Codes::read_front(n, d, bytes)?;
+        let (codes, rest) = Codes::read_front(n, d, false, bytes)?;
         end(codes, rest)
     }
 

@@ -75,7 +75,7 @@ later_length {X = X} left l =
     let e = length-take-le (length left - 1) (drop 1 left) (omega arith) in
     omega arith
 
-first_later : {X : Type 0} (left : List X) (first : X) → 1 ≤ length left → first ≡ get_or left 0 first → left ≡ first ∷ take (length left - 1) (drop 1 left)
+pub first_later : {X : Type 0} (left : List X) (first : X) → 1 ≤ length left → first ≡ get_or left 0 first → left ≡ first ∷ take (length left - 1) (drop 1 left)
 first_later {X = X} left first l h =
     let d = length-drop 1 left in
     drop-cons left 0 first l ∙ ap (λ (x : X). x ∷ drop 1 left) (sym h) ∙ ap (λ (xs : List X). first ∷ xs) (sym (all (length left - 1) (drop 1 left) (omega arith)))

@@ -129,7 +129,7 @@ impl File {
         self.bytes.as_slice()
     }
 
-    /// What stands in the file. The columns are read again, but no row number, index or row.
+    /// What stands in the file. It takes a step for each column and each index: no value, row number, offset or row is looked at again.
     pub fn view(&self, alloc: Global, schema: &Schema) -> Result<View<'_>, Memory>
         requires { schema.now ≡ self.now.schema }
         ensures same { IfOk result (λ view. file_at self.now.schema self.now.bytes ≡ Ok view) }

@@ -44,7 +44,7 @@ impl<'a> Model for View<'a> {
     ghost invariant = { λ v. IsView v.count v.ids.now v.columns.items };
 }
 
-/// The parts of a file, not yet checked together. Of a file that was judged before, row numbers and indexes are not checked again.
+/// The parts of a file, not yet checked together. Of a file that was judged before nothing but the head is checked again.
 #[tactic(auto, unfolding(crate::specs::Parts::parts_at))]
 pub(crate) fn read_parts<'a>(
     alloc: Global,
@@ -59,7 +59,7 @@ pub(crate) fn read_parts<'a>(
 {
     let (count, rest) = split_head(schema, bytes)?;
     let (ids, rest) = split_ids(alloc, count, judged, rest)?;
-    let (columns, rest) = read_columns(alloc, schema.cols.as_slice(), count, rest)?;
+    let (columns, rest) = read_columns(alloc, schema.cols.as_slice(), count, judged, rest)?;
     let (indexes, rest) = read_indexes(alloc, schema, count, judged, rest)?;
     let view = View {
         count,
