@@ -1,2 +1,3 @@
 mod Bridges
 mod Closings
+mod Fronts

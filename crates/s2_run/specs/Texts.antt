@@ -61,7 +61,7 @@ text_of (Help help) = string_bytes help
 text_of SourceFault = line_text (codes "source fault")
 text_of (NoScript line kind) = script_error line kind
 text_of NoMemory = []
-text_of (Output text) = text.items
+text_of (Output text) = text
 text_of (Judged checked) = checked_text checked
 
 abbrev pub checked_status : Checked → ℕ

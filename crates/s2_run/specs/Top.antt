@@ -43,7 +43,7 @@ IsNoScript bytes = (script : Script) → IsScriptText bytes script → ⊥
 -- how a whole input is answered in a mode
 abbrev pub Answered : Mode → List ℕ → Ending → Type 0
 Answered Drive bytes (NoScript line kind) = ReadsLines bytes (Err (line, kind)) × IsNoScript bytes
-Answered Drive bytes (Output text) = IsRunOf bytes text.items
+Answered Drive bytes (Output text) = IsRunOf bytes text
 Answered Check bytes (Judged checked) = IsChecked bytes checked
 Answered mode bytes NoMemory = Unit {0}
 Answered mode bytes _ = ⊥

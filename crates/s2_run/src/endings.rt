@@ -1,4 +1,5 @@
 //! How a run of the program ends.
+use crate::Text;
 use s2_check::Checked;
 use s2_judge::Kind;
 
@@ -16,7 +17,7 @@ pub enum Ending {
     /// There was no memory.
     NoMemory,
     /// The script was run: the text of its outcome.
-    Output(Vec<u8>),
+    Output(Text),
     /// The input was checked.
     Judged(Checked),
 }

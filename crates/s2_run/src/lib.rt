@@ -3,12 +3,15 @@
 
 mod endings;
 mod kinds;
+mod outputs;
+mod pieces;
 #[cfg(test)]
 mod tests;
 mod texts;
 mod top;
 
 pub use endings::Ending;
+pub use pieces::Text;
 pub use s2_check::check_call;
 pub use s2_drive::drive_call;
 pub use top::s2table;

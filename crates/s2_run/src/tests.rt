@@ -79,7 +79,7 @@ const DRIVE: &[&str] = &["--mode", "drive"];
 #[test]
 fn runs_end_so(rt: HostRuntime) -> Result<(), Fail> {
     let alloc = rt.alloc();
-    let cases: [(&[&str], &[u8], &[u64], &[u64], u8, &[u8]); 14] = [
+    let cases: [(&[&str], &[u8], &[u64], &[u64], u8, &[u8]); 15] = [
         (&[], SCRIPT, &[], &[], 0, OUTPUT),
         (DRIVE, SCRIPT, &[], &[], 0, OUTPUT),
         (DRIVE, EXTREMES, &[], &[], 0, EXTREMES_OUTPUT),
@@ -106,6 +106,14 @@ fn runs_end_so(rt: HostRuntime) -> Result<(), Fail> {
         (DRIVE, SCRIPT, &[1], &[], 4, b"source fault\n"),
         (DRIVE, SCRIPT, &[2], &[], 4, b"source fault\n"),
         (DRIVE, SCRIPT, &[], &[1], 5, b""),
+        (
+            DRIVE,
+            SCRIPT,
+            &[],
+            &[2],
+            5,
+            b"SESSION 1 2 0\n0 0 OK 1\n2 0 ROWS 1\n(7, 'ab')\n",
+        ),
         (&["--mode", "fly"], SCRIPT, &[], &[1], 5, b""),
         (
             DRIVE,
@@ -183,5 +191,34 @@ fn a_front_is_written_before_a_fault(rt: HostRuntime) -> Result<(), Fail> {
     let words = Vec::new(alloc);
     assert_eq!(rt; s2table(alloc, words.as_slice(), &mut src, &mut out), 5);
     assert_eq!(rt; out.sink.bytes(), b"S".as_slice());
+    Ok(())
+}
+
+const LONG_LINE: &[u8] =
+    b"1: INSERT INTO t VALUES ('xxxxxxxxxxxxxxxxxxxxxxxxxxxxxxxxxxxxxxxxxxxxxxxxxxxxxxxxxxxxxxxxxxxxxxxxxxxxxxxxxxxxxxxxxxxxxxxxxxxxxxxxxxxxxxxxxxxxxxxxxxxxxxxxxxxxxxxxxxxxxxxxxxxxxxxxxxxxxxxxxxxxxxxxxxxxxxxxxxxxxxxxxxxxxxxxxxxxxxxx');\n";
+
+/// A script whose history is longer than two pieces.
+fn long_script(alloc: Global) -> Result<Vec<u8>, AllocError> {
+    let mut script = Vec::from_slice(alloc, b"CREATE TABLE t (name TEXT);\n".as_slice())?;
+    for _ in 0..700usize {
+        script.extend_from_slice(LONG_LINE)?;
+    }
+    Ok(script)
+}
+
+#[test]
+fn a_text_of_many_pieces_is_legal(rt: HostRuntime) -> Result<(), Fail> {
+    let alloc = rt.alloc();
+    let script = long_script(alloc)?;
+    let mut sink = MemSink::new(alloc, Vec::new(alloc));
+    let status = run(alloc, DRIVE, script.as_slice(), &[], &[], &mut sink)?;
+    assert_eq!(rt; status, 0);
+    let mut input = script;
+    input.extend_from_slice(b"==OUTPUT==\n")?;
+    input.extend_from_slice(sink.bytes())?;
+    let mut verdict = MemSink::new(alloc, Vec::new(alloc));
+    let status = run(alloc, CHECK, input.as_slice(), &[], &[], &mut verdict)?;
+    assert_eq!(rt; status, 0);
+    assert_eq!(rt; verdict.bytes(), b"legal\n".as_slice());
     Ok(())
 }

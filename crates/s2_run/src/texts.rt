@@ -3,8 +3,8 @@ ghost use Rattle.std.specs.Prelude.{◌≡◌, ◌++◌, IfOk, OnOk};
 ghost use Rattle.std.specs.Fmt.{decimal};
 ghost use Rattle.s2_run.specs.Texts.{text_of, status_of, checked_text, checked_status, line_text, script_error, entry_text, reply_text, output_error};
 
-use crate::Ending;
 use crate::kinds::kind_name;
+use crate::{Ending, Text};
 use itoa::Buffer;
 use s2_check::Checked;
 use s2_judge::Kind;
@@ -78,17 +78,17 @@ fn checked_text(alloc: Global, checked: Checked) -> Result<Vec<u8>, Memory>
 }
 
 /// The text that is written at this ending. The `Err` is want of memory.
-pub fn text_of(alloc: Global, ending: Ending) -> Result<Vec<u8>, Memory>
-    ensures { IfOk result (λ text. text.items ≡ text_of ending) }
+pub fn text_of(alloc: Global, ending: Ending) -> Result<Text, Memory>
+    ensures { IfOk result (λ text. text ≡ text_of ending) }
 {
     match ending {
-        Ending::Usage => line_text(alloc, b"usage error"),
-        Ending::Help(help) => Ok(help.into_bytes()),
-        Ending::SourceFault => line_text(alloc, b"source fault"),
-        Ending::NoScript(line, kind) => script_error(alloc, line, kind),
-        Ending::NoMemory => Ok(Vec::new(alloc)),
+        Ending::Usage => Ok(Text::from_vec(line_text(alloc, b"usage error")?)),
+        Ending::Help(help) => Ok(Text::from_vec(help.into_bytes())),
+        Ending::SourceFault => Ok(Text::from_vec(line_text(alloc, b"source fault")?)),
+        Ending::NoScript(line, kind) => Ok(Text::from_vec(script_error(alloc, line, kind)?)),
+        Ending::NoMemory => Ok(Text::from_vec(Vec::new(alloc))),
         Ending::Output(text) => Ok(text),
-        Ending::Judged(checked) => checked_text(alloc, checked),
+        Ending::Judged(checked) => Ok(Text::from_vec(checked_text(alloc, checked)?)),
     }
 }
 

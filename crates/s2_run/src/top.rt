@@ -1,5 +1,5 @@
 //! The top call.
-ghost use Rattle.std.specs.Prelude.{◌≡◌, ◌⊎◌, [], map, IfOk, IfSome};
+ghost use Rattle.std.specs.Prelude.{◌≡◌, ◌⊎◌, map, IfOk, IfSome};
 ghost use Rattle.std.specs.String.{string_bytes};
 ghost use Rattle.s2_outside.specs.Told.{Told};
 ghost use Rattle.s2_outside.specs.Count.{Rose};
@@ -9,14 +9,15 @@ ghost use Rattle.s2_resolve.specs.Suits.{IsBuiltScript};
 ghost use Rattle.s2_run.specs.Texts.{text_of, status_of, refusal_ending};
 ghost use Rattle.s2_run.specs.Top.{most_bytes, Answered, Reads, Comes, Writes, Closes, Ends, Headline, Settles, IsTextOf};
 
-use crate::Ending;
+use crate::outputs::output_text;
+use crate::pieces::write_text;
 use crate::texts::{status_of, text_of};
+use crate::{Ending, Text};
 use s2_check::check_call;
 use s2_drive::drive_call;
-use s2_histproof::{print_history, print_transcripts};
 use s2_judge::Kind;
-use s2_model::{Outcome, Script};
-use s2_outside::{ReadStop, Sink, Source, read_all, write_all};
+use s2_model::Script;
+use s2_outside::{ReadStop, Sink, Source, read_all};
 use s2_reader::{ScriptFault, read_script};
 use s2_value::Memory;
 use s2_words::{Asked, Mode, WordsFault, words as asked_by};
@@ -28,9 +29,6 @@ const SINK_FAULT: u8 = 5;
 /// The status of a run without memory.
 const NO_MEMORY: u8 = 6;
 
-/// How many bytes the line of an entry, with its part of a reply's line, rarely is longer than.
-const BYTES_AN_ENTRY: usize = 64;
-
 fn most_bytes(mode: Mode) -> usize
     ensures { result ≡ most_bytes mode }
 {
@@ -40,28 +38,12 @@ fn most_bytes(mode: Mode) -> usize
     }
 }
 
-// No text, with room for that of a run of so many entries, as far as there is memory: so the text is seldom moved as it grows.
-fn no_text(alloc: Global, entries: usize) -> Vec<u8>
-    ensures { result.items ≡ [] }
-{
-    match Vec::with_capacity(alloc, entries.saturating_mul(BYTES_AN_ENTRY)) {
-        Ok(text) => text,
-        Err(_) => Vec::new(alloc),
-    }
-}
-
-fn run_script(alloc: Global, script: Script) -> Result<Vec<u8>, Memory>
+fn run_script(alloc: Global, script: Script) -> Result<Text, Memory>
     requires { IsBuiltScript script }
-    ensures { IfOk result (λ text. IsTextOf script text.items) }
+    ensures { IfOk result (λ text. IsTextOf script text) }
 {
-    let Outcome {
-        history,
-        transcripts,
-    } = drive_call(alloc, script)?;
-    let mut text = no_text(alloc, history.len());
-    print_transcripts(&transcripts, &mut text)?;
-    drop(transcripts);
-    print_history(&history, &mut text)?;
+    let outcome = drive_call(alloc, script)?;
+    let text = output_text(alloc, outcome)?;
     Ok(text)
 }
 
@@ -128,10 +110,10 @@ fn finish<S: Source>(alloc: Global, words: &[String], src: &mut S) -> Ending
     }
 }
 
-fn write<W: Sink>(out: &mut W, text: &[u8], status: u8) -> u8
+fn write<W: Sink>(out: &mut W, text: &Text, status: u8) -> u8
     ensures { Writes (W.taken out.old) (W.taken out.new) (Rose (W.faults out.old) (W.faults out.new)) text.now status result }
 {
-    match write_all(out, text) {
+    match write_text(out, text) {
         Ok(()) => status,
         Err(_) => SINK_FAULT,
     }
@@ -142,8 +124,8 @@ fn end<W: Sink>(alloc: Global, out: &mut W, ending: Ending) -> u8
 {
     let status = status_of(&ending);
     match text_of(alloc, ending) {
-        Ok(text) => write(out, text.as_slice(), status),
-        Err(_) => write(out, b"", NO_MEMORY),
+        Ok(text) => write(out, &text, status),
+        Err(_) => write(out, &Text::from_vec(Vec::new(alloc)), NO_MEMORY),
     }
 }
 
