@@ -13,3 +13,4 @@ pub mod Rising
 pub mod Stands
 pub mod Steps
 pub mod TakenBack
+pub mod Walk

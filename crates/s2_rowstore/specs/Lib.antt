@@ -1,8 +1,10 @@
 pub mod Chains
 pub mod Ends
+pub mod Held
 pub mod Ids
 pub mod Keys
 pub mod Lines
+pub mod Numbers
 pub mod Prepared
 pub mod Present
 pub mod Store

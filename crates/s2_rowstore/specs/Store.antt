@@ -47,12 +47,12 @@ IsPosted schema notes lines = (j : ℕ) (q : List Value) (n : ℕ) → j < lengt
 abbrev pub IsListed : List (BTreeSet ℕ) → List (ℕ × Line) → Type 0
 IsListed changed lines = (k n : ℕ) → k < 17 → is_some (own k (body_at lines n).1) ≡ true → names_row (ids_of changed k) n ≡ true
 
-pub record IsKept (schema : Schema) (notes : List (BTreeMap (List Value) (List ℕ))) (changed : List (BTreeSet ℕ)) (ids : List ℕ) (E : Ends) (lines : List (ℕ × Line)) : Type 0 where
+pub record IsKept (schema : Schema) (notes : List (BTreeMap (List Value) (List ℕ))) (changed : List (BTreeSet ℕ)) (blocks : List (ℕ × List Bool)) (E : Ends) (lines : List (ℕ × Line)) : Type 0 where
   pub keys : length notes ≡ length (keys_of schema)
   pub actors : length changed ≡ 17
   pub posted : IsPosted schema notes lines
   pub listed : IsListed changed lines
-  pub present : ArePresent ids lines
+  pub present : ArePresent blocks lines
   pub queued : AreQueued E lines
 
 -- each row fits the schema

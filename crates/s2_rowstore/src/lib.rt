@@ -8,6 +8,7 @@ mod ids;
 mod laws;
 mod lines;
 mod notes;
+mod numbers;
 mod present;
 mod ready;
 mod store;

@@ -1,15 +1,18 @@
 // The rows that have a living version or an open write, so that a walk passes over no others.
-ghost use Rattle.std.specs.Prelude.{◌≡◌, ℕ, true, false, OnOk, IfOk, is_some, nat_lt, take, All};
+ghost use Rattle.std.specs.Prelude.{◌≡◌, ◌≤◌, ℕ, ◌++◌, true, false, OnOk, IfOk, is_some, take, length, All};
 ghost use Rattle.std.specs.List.{filter};
+ghost use Rattle.std.specs.Map.{keys_of};
 ghost use Rattle.std.specs.List.Sorted.{IsStrictlySortedBy};
 ghost use Rattle.std.specs.Ordering.{nat_cmp};
 ghost use Rattle.s2_rowstore.specs.Chains.{own};
 ghost use Rattle.s2_rowstore.specs.Lines.{body_at, names_row};
-ghost use Rattle.s2_rowstore.specs.Present.{is_present, is_free, ArePresent};
+ghost use Rattle.s2_rowstore.specs.Numbers.{is_among, numbers_of, numbers_in};
+ghost use Rattle.s2_rowstore.specs.Present.{is_present, is_free, is_free_above, ArePresent};
 
 use crate::ends::Ends;
 use crate::ids::put_id;
 use crate::lines::Lines;
+use crate::numbers::Numbers;
 use s2_value::Memory;
 use std::alloc::Global;
 use std::collections::BTreeSet;
@@ -33,6 +36,13 @@ fn is_free(lines: &Lines, id: u64, r: u64) -> bool
         Some(chain) => chain.is_free(r),
         None => false,
     }
+}
+
+// Whether the row is above `from`, has a living version that began by `r`, and no open write.
+fn is_free_above(lines: &Lines, id: u64, from: u64, r: u64) -> bool
+    ensures { result ≡ is_free_above from r lines.now.entries id }
+{
+    from < id && is_free(lines, id, r)
 }
 
 // Whether the actor has an open write of the row.
@@ -64,17 +74,17 @@ fn count_all(changed: &[BTreeSet<u64>]) -> usize {
 
 /// Puts the row numbers of these pairs among the others, and makes room for all ends until the next call: `changed` has each actor's rows with an open write.
 pub(crate) fn list_rows<T>(
-    ids: &mut BTreeSet<u64>,
+    ids: &mut Numbers,
     ends: &mut Ends,
     changed: &[BTreeSet<u64>],
     rows: &[(u64, T)],
 ) -> Result<(), Memory>
     ensures ends { ends.new ≡ ends.old }
-    ensures kept { (n : ℕ) → names_row ids.old.keys n ≡ true → names_row ids.new.keys n ≡ true }
-    ensures added { OnOk result (All (λ p. names_row ids.new.keys p.0 ≡ true) rows.now) }
+    ensures kept { (n : ℕ) → is_among ids.old n ≡ true → is_among ids.new n ≡ true }
+    ensures added { OnOk result (All (λ p. is_among ids.new p.0 ≡ true) rows.now) }
 {
     for (id, _) in rows {
-        add_id(ids, *id)?;
+        ids.insert(*id)?;
     }
     // A commit queues one end for each row with an open write, and a row that ends otherwise has none and is present no more.
     let open = count_all(changed).saturating_add(rows.len());
@@ -83,17 +93,17 @@ pub(crate) fn list_rows<T>(
 }
 
 /// Takes the row out of these, if it has neither a living version nor an open write.
-pub(crate) fn drop_absent(ids: &mut BTreeSet<u64>, lines: &Lines, id: u64)
-    ensures { ArePresent ids.old.keys lines.now.entries → ArePresent ids.new.keys lines.now.entries }
+pub(crate) fn drop_absent(ids: &mut Numbers, lines: &Lines, id: u64)
+    ensures { ArePresent ids.old lines.now.entries → ArePresent ids.new lines.now.entries }
 {
     if !is_present(lines, id) {
-        let _ = ids.remove(&id);
+        ids.remove(id);
     }
 }
 
 /// The same for each of the rows that changed.
-pub(crate) fn drop_all_absent(ids: &mut BTreeSet<u64>, lines: &Lines, changed: &BTreeSet<u64>)
-    ensures { ArePresent ids.old.keys lines.now.entries → ArePresent ids.new.keys lines.now.entries }
+pub(crate) fn drop_all_absent(ids: &mut Numbers, lines: &Lines, changed: &BTreeSet<u64>)
+    ensures { ArePresent ids.old lines.now.entries → ArePresent ids.new lines.now.entries }
 {
     for id in changed {
         drop_absent(ids, lines, *id);
@@ -119,28 +129,54 @@ pub(crate) fn changed_rows(
     Ok(found)
 }
 
+// Puts those of the block's numbers that are free behind the found ones, as long as there are fewer than `most`.
+fn find_in_block(
+    found: &mut Vec<u64>,
+    lines: &Lines,
+    block: u64,
+    flags: &[bool; 16],
+    from: u64,
+    r: u64,
+    most: usize,
+) -> Result<(), Memory>
+    requires { length found.old.items ≤ most }
+    ensures { OnOk result (found.new.items ≡ take most (found.old.items ++ filter (is_free_above from r lines.now.entries) (numbers_of (block, flags.now)))) }
+{
+    if block > u64::MAX / 16 {
+        // The numbers of such a block are no row numbers.
+        return Ok(());
+    }
+    for i in 0..16usize {
+        if found.len() >= most {
+            return Ok(());
+        }
+        let id = block * 16 + i as u64;
+        if flags[i] && is_free_above(lines, id, from, r) {
+            found.push(id)?;
+        }
+    }
+    Ok(())
+}
+
 /// The first of the rows above `from` that have a living version that began by `r` and no open write, at most so many.
 pub(crate) fn first_free(
     lines: &Lines,
     alloc: Global,
-    ids: &BTreeSet<u64>,
+    ids: &Numbers,
     from: u64,
     r: u64,
     most: usize,
 ) -> Result<Vec<u64>, Memory>
-    ensures rows { IfOk result (λ found. found.items ≡ take most (filter (λ n. is_free r (body_at lines.now.entries n)) (filter (nat_lt from) ids.now.keys))) }
-    ensures ordered { IsStrictlySortedBy nat_cmp ids.now.keys }
+    ensures rows { IfOk result (λ found. found.items ≡ take most (filter (is_free_above from r lines.now.entries) (numbers_in ids.now))) }
+    ensures ordered { IsStrictlySortedBy nat_cmp (keys_of ids.now) }
 {
     let mut found = Vec::new(alloc);
-    let mut left = most;
-    for id in ids.range((Bound::Excluded(from), Bound::Unbounded)) {
-        if left == 0 {
+    let start = Bound::Included(from / 16);
+    for (block, flags) in ids.blocks().range((start, Bound::Unbounded)) {
+        if found.len() >= most {
             return Ok(found);
         }
-        if is_free(lines, *id, r) {
-            found.push(*id)?;
-            left -= 1;
-        }
+        find_in_block(&mut found, lines, *block, flags, from, r, most)?;
     }
     Ok(found)
 }

@@ -16,6 +16,7 @@ use crate::lines::{
     row_since, rows_with_key, seen_row, undo_all, visible_rows,
 };
 use crate::notes::Notes;
+use crate::numbers::Numbers;
 use crate::present::{changed_rows, drop_absent, drop_all_absent, first_free, list_rows};
 use crate::ready::{ready_changes, ready_rows};
 use s2_value::{Key, Memory, Row, Schema, TableRows, Value};
@@ -38,7 +39,7 @@ pub struct Rowstore {
     // By each actor, the numbers of the rows that it has an open write of.
     changed: Vec<BTreeSet<u64>>,
     // The numbers of the rows that have a living version or an open write.
-    present: BTreeSet<u64>,
+    present: Numbers,
     // The versions that ended, by the time of their end.
     ends: Ends,
 }
@@ -50,7 +51,7 @@ impl Model for Rowstore {
 
     ghost view = { λ s. record { schema = s.schema; lines = s.lines.entries } };
 
-    ghost invariant = { λ s. IsKept s.schema s.notes.items s.changed.items s.present.keys s.ends s.lines.entries };
+    ghost invariant = { λ s. IsKept s.schema s.notes.items s.changed.items s.present s.ends s.lines.entries };
 }
 
 fn no_notes(alloc: Global, count: usize) -> Result<Vec<Notes>, Memory>
@@ -91,7 +92,7 @@ impl Rowstore {
             notes,
             spare,
             changed,
-            present: BTreeSet::new(alloc),
+            present: Numbers::new(alloc),
             ends: Ends::new(alloc),
         })
     }

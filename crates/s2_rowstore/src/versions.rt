@@ -1,25 +1,25 @@
 // The versions of one row in time, and what becomes of its open write.
-ghost use Rattle.std.specs.Prelude.{◌≡◌, ◌<◌, ◌≤◌, ◌++◌, ◌-◌, ◌&&◌, [], None, Some, OnOk, is_some, not, true, length};
-ghost use Rattle.std.specs.Option.{option_copied, option_map};
+ghost use Rattle.std.specs.Prelude.{◌≡◌, ◌<◌, ◌≤◌, ◌++◌, ◌∷◌, ◌-◌, ◌&&◌, [], None, Some, OnOk, OnErr, IfOk, IfSome, IfNone, is_some, not, true, length};
+ghost use Rattle.std.specs.Option.{option_copied, option_map, option_to_list};
 ghost use Rattle.std.specs.List.{list_any};
-ghost use Rattle.s2_rowstore.specs.Keys.{row_has, slot_has, body_has};
-ghost use Rattle.s2_rowstore.specs.Lines.{cut_body, left_by};
+ghost use Rattle.s2_rowstore.specs.Keys.{row_has, slot_has};
+ghost use Rattle.s2_rowstore.specs.Lines.{cut_body};
 ghost use Rattle.s2_rowstore.specs.Ends.{is_end, has_end};
-ghost use Rattle.s2_rowstore.specs.Present.{is_present, is_free};
-ghost use Rattle.s2_rowstore.specs.Chains.{body, row_at, is_visible, living_since, ended, begun, own, chain_after, slot_after, seen, end_version, kept, is_done, is_empty_body};
+ghost use Rattle.s2_rowstore.specs.Chains.{body, row_at, is_visible, living_since, ended, begun, own, chain_after, slot_after, seen, end_version, kept, is_done};
 
 use crate::chain::{Slot, Version};
 use crate::notes::row_has;
 use s2_value::{Memory, Row, Seq, Value};
 use smallvec::SmallVec;
-use std::alloc::Global;
+use std::alloc::{AllocError, Global};
+use std::default::MadeWith;
 use std::marker::Model;
 use std::mem;
 
-/// The versions of one row in the order of their beginning, and its open write. Most rows have one version for long, which stands in place.
+/// The versions of one row in the order of their beginning, and its open write. Few rows have more than two versions, and two stand in place.
 #[derive(Debug, Drop)]
 pub(crate) struct Versions {
-    versions: SmallVec<Version, 1>,
+    versions: SmallVec<Version, 2>,
     slot: Option<Slot>,
 }
 
@@ -35,8 +35,8 @@ impl Model for Versions {
     ghost invariant = { λ c. is_some c.slot ≡ true → small_vec_len c.versions < c.versions.capacity };
 }
 
-// The version ends, if it is living.
-fn end_version(version: &mut Version, time: u64)
+/// The version ends, if it is living.
+pub(crate) fn end_version(version: &mut Version, time: u64)
     ensures { version.new ≡ end_version time version.old }
 {
     if version.stop.is_none() {
@@ -53,6 +53,7 @@ fn end_living(versions: &mut [Version], time: u64)
     }
 }
 
+// Whether the version had begun by `r` and was not over.
 fn is_visible(version: &Version, r: u64) -> bool
     ensures { result ≡ is_visible r version.now }
 {
@@ -76,7 +77,8 @@ fn row_at(versions: &[Version], r: u64) -> Option<&Row>
     None
 }
 
-fn living_since(versions: &[Version]) -> Option<u64>
+/// When the living version began.
+pub(crate) fn living_since(versions: &[Version]) -> Option<u64>
     ensures { result ≡ living_since versions.now }
 {
     let mut left = versions;
@@ -98,7 +100,8 @@ fn is_end(version: &Version, time: u64) -> bool
     }
 }
 
-fn any_ended_at(versions: &[Version], time: u64) -> bool
+/// Whether one of the versions ended at `time`.
+pub(crate) fn any_ended_at(versions: &[Version], time: u64) -> bool
     ensures { result ≡ has_end time versions.now }
 {
     let mut left = versions;
@@ -111,7 +114,8 @@ fn any_ended_at(versions: &[Version], time: u64) -> bool
     false
 }
 
-fn any_has(versions: &[Version], places: &[u8], key: &[Value]) -> bool
+/// Whether one of the versions has the key at these places.
+pub(crate) fn any_has(versions: &[Version], places: &[u8], key: &[Value]) -> bool
     ensures { result ≡ list_any (λ v. row_has places.now key.now v.row) versions.now }
 {
     let mut left = versions;
@@ -124,7 +128,8 @@ fn any_has(versions: &[Version], places: &[u8], key: &[Value]) -> bool
     false
 }
 
-fn is_kept(version: &Version, h: u64) -> bool
+/// Whether a cut at `h` keeps the version.
+pub(crate) fn is_kept(version: &Version, h: u64) -> bool
     ensures { result ≡ not (is_done h version.now.stop) }
 {
     match version.stop {
@@ -152,14 +157,15 @@ fn any_kept_with(versions: &[Version], h: u64, places: &[u8], key: &[Value]) -> 
     false
 }
 
-fn any_kept_has(versions: &[Version], h: u64, places: &[u8], key: &[Value]) -> bool
+/// Whether one of the versions that a cut at `h` keeps has the key at these places.
+pub(crate) fn any_kept_has(versions: &[Version], h: u64, places: &[u8], key: &[Value]) -> bool
     ensures { result ≡ list_any (λ v. row_has places.now key.now v.row) (kept h versions.now) }
 {
     any_kept_with(versions, h, places, key)
 }
 
-// Hands out the row of a version that ended at or before `h`.
-fn lend_row(alloc: Global, version: &mut Version, h: u64) -> Option<Row>
+/// Hands out the row of a version that ended at or before `h`.
+pub(crate) fn lend_row(alloc: Global, version: &mut Version, h: u64) -> Option<Row>
     ensures stop { version.new.stop ≡ version.old.stop }
     ensures kept { not (is_done h version.old.stop) ≡ true → version.new ≡ version.old }
 {
@@ -175,6 +181,85 @@ fn lend_done(alloc: Global, versions: &mut [Version], i: usize, h: u64) -> Optio
     ensures { kept h versions.new ≡ kept h versions.old }
 {
     lend_row(alloc, &mut versions[i], h)
+}
+
+/// The row as the actor sees it at r, with this open write.
+pub(crate) fn seen<'a>(
+    slot: Option<&'a Slot>,
+    versions: &'a [Version],
+    actor: u8,
+    r: u64,
+) -> Option<&'a Row>
+    ensures { option_copied result ≡ seen actor r (versions.now, option_copied slot.entry) }
+{
+    match slot {
+        Some(slot) if slot.holder == actor => slot.change.get().as_ref(),
+        _ => row_at(versions, r),
+    }
+}
+
+/// Who has the open write.
+pub(crate) fn holder(slot: Option<&Slot>) -> Option<u8>
+    ensures { result ≡ option_map (λ s. s.holder) (option_copied slot.entry) }
+{
+    match slot {
+        Some(slot) => Some(slot.holder),
+        None => None,
+    }
+}
+
+/// Sets the open write, and hands out the row of the one before it.
+pub(crate) fn put_slot(slot: &mut Option<Slot>, later: Slot) -> Option<Row>
+    ensures { slot.new ≡ Some later }
+{
+    let before = slot.take();
+    *slot = Some(later);
+    row_of(before)
+}
+
+/// The actor's open write, if this is one, is forgotten, and its row handed out.
+pub(crate) fn undo_slot(slot: &mut Option<Slot>, actor: u8) -> Option<Row>
+    ensures { slot.new ≡ slot_after actor slot.old }
+{
+    if holder(slot.as_ref()) != Some(actor) {
+        return None;
+    }
+    let gone = slot.take();
+    row_of(gone)
+}
+
+/// The actor's open write, if this is one, takes effect at `time` where no version stands: so the first version begins.
+pub(crate) fn commit_first(slot: &mut Option<Slot>, actor: u8, time: u64) -> Option<Version>
+    ensures after { slot.new ≡ slot_after actor slot.old }
+    ensures begun { option_to_list result ≡ chain_after time (own actor slot.old) [] }
+{
+    if holder(slot.as_ref()) != Some(actor) {
+        return None;
+    }
+    let Some(done) = slot.take() else {
+        return None;
+    };
+    match done.change.into_inner() {
+        Some(row) => Some(Version {
+            row,
+            begin: time,
+            stop: None,
+        }),
+        None => None,
+    }
+}
+
+/// Whether the open write puts a row with the key at these places.
+pub(crate) fn slot_has(slot: Option<&Slot>, places: &[u8], key: &[Value]) -> bool
+    ensures { result ≡ slot_has places.now key.now (option_copied slot.entry) }
+{
+    let Some(slot) = slot else {
+        return false;
+    };
+    match slot.change.get() {
+        Some(row) => row_has(places, key, row.as_slice()),
+        None => false,
+    }
 }
 
 // The row that an open write puts.
@@ -196,6 +281,58 @@ impl Versions {
         }
     }
 
+    /// No version, and the open write, which moves here, with room for so many. Where there is no memory for it, it stays.
+    pub(crate) fn with_slot(
+        alloc: Global,
+        slot: &mut Option<Slot>,
+        more: usize,
+    ) -> Result<Box<Versions>, Memory>
+        requires { 0 < more }
+        ensures ok { IfOk result (λ many. body many.value ≡ ([], slot.old)) }
+        ensures room { IfOk result (λ many. more ≤ many.value.room) }
+        ensures err { OnErr result (slot.new ≡ slot.old) }
+    {
+        let mut many = Box::new(alloc, Versions::new(alloc))?;
+        many.reserve(more)?;
+        many.take_slot(slot);
+        Ok(many)
+    }
+
+    // The open write moves here.
+    fn take_slot(&mut self, slot: &mut Option<Slot>)
+        requires { 0 < self.old.room }
+        ensures same { body self.new ≡ (self.old.versions, slot.old) }
+        ensures room { self.new.room ≡ self.old.room }
+    {
+        self.slot = slot.take();
+    }
+
+    /// The version of which a blank one takes the place, with room for so many more. Where there is no memory for it, it stays.
+    pub(crate) fn with(
+        alloc: Global,
+        version: &mut Version,
+        more: usize,
+    ) -> Result<Box<Versions>, Memory>
+        ensures ok { IfOk result (λ many. body many.value ≡ (version.old ∷ [], None)) }
+        ensures room { IfOk result (λ many. more ≤ many.value.room) }
+        ensures err { OnErr result (version.new ≡ version.old) }
+    {
+        let mut many = Box::new(alloc, Versions::new(alloc))?;
+        many.reserve(more.checked_add(1).ok_or(AllocError)?)?;
+        many.push(mem::replace(version, Version::made_with(alloc)));
+        Ok(many)
+    }
+
+    // Puts a version behind the others.
+    fn push(&mut self, version: Version)
+        requires room { 0 < self.old.room }
+        requires free { self.old.slot ≡ None }
+        ensures same { body self.new ≡ (self.old.versions ++ version ∷ [], None) }
+        ensures room { self.new.room ≡ self.old.room - 1 }
+    {
+        self.versions.push_reserved(version);
+    }
+
     /// Makes room for so many more versions.
     pub(crate) fn reserve(&mut self, more: usize) -> Result<(), Memory>
         ensures same { body self.new ≡ body self.old }
@@ -205,31 +342,18 @@ impl Versions {
         self.versions.reserve(more)
     }
 
-    /// The row as the actor sees it at r.
-    pub(crate) fn seen(&self, actor: u8, r: u64) -> Option<&Row>
-        ensures { option_copied result ≡ seen actor r (body self.now) }
+    /// The versions.
+    pub(crate) fn versions(&self) -> &[Version]
+        ensures { result.now ≡ self.now.versions }
     {
-        match &self.slot {
-            Some(slot) if slot.holder == actor => slot.change.get().as_ref(),
-            _ => row_at(self.versions.as_slice(), r),
-        }
+        self.versions.as_slice()
     }
 
-    /// When the living version began.
-    pub(crate) fn living_since(&self) -> Option<u64>
-        ensures { result ≡ living_since self.now.versions }
+    /// The open write.
+    pub(crate) fn slot(&self) -> Option<&Slot>
+        ensures { option_copied result ≡ self.now.slot }
     {
-        living_since(self.versions.as_slice())
-    }
-
-    /// Who has an open write of the row.
-    pub(crate) fn holder(&self) -> Option<u8>
-        ensures { result ≡ option_map (λ s. s.holder) self.now.slot }
-    {
-        match &self.slot {
-            Some(slot) => Some(slot.holder),
-            None => None,
-        }
+        self.slot.as_ref()
     }
 
     /// Sets the open write, and hands out the row of the one before it.
@@ -238,16 +362,14 @@ impl Versions {
         ensures same { body self.new ≡ (self.old.versions, Some slot) }
         ensures room { self.new.room ≡ self.old.room }
     {
-        let before = self.slot.take();
-        self.slot = Some(slot);
-        row_of(before)
+        put_slot(&mut self.slot, slot)
     }
 
     /// The actor's open write, if it has one, takes effect at `time`.
     pub(crate) fn commit(&mut self, actor: u8, time: u64)
         ensures { body self.new ≡ (chain_after time (own actor self.old.slot) self.old.versions, slot_after actor self.old.slot) }
     {
-        if self.holder() != Some(actor) {
+        if holder(self.slot()) != Some(actor) {
             return;
         }
         let Some(slot) = self.slot.take() else {
@@ -267,11 +389,7 @@ impl Versions {
     pub(crate) fn undo(&mut self, actor: u8) -> Option<Row>
         ensures { body self.new ≡ (self.old.versions, slot_after actor self.old.slot) }
     {
-        if self.holder() != Some(actor) {
-            return None;
-        }
-        let gone = self.slot.take();
-        row_of(gone)
+        undo_slot(&mut self.slot, actor)
     }
 
     /// The living version ends at `time`.
@@ -281,33 +399,11 @@ impl Versions {
         end_living(self.versions.as_mut_slice(), time);
     }
 
-    fn forget(&mut self, h: u64)
+    /// Forgets the versions that ended at or before `h`.
+    pub(crate) fn forget(&mut self, h: u64)
         ensures { body self.new ≡ (kept h self.old.versions, self.old.slot) }
     {
         self.versions.retain(|version| is_kept(version, h));
-    }
-
-    /// Forgets the versions that ended at or before `h`, and answers whether something is left.
-    pub(crate) fn cut(&mut self, h: u64) -> bool
-        ensures after { body self.new ≡ (kept h self.old.versions, self.old.slot) }
-        ensures left { result ≡ not (is_empty_body (body self.new)) }
-    {
-        self.forget(h);
-        !self.is_empty()
-    }
-
-    /// Whether a version ended at `time`.
-    pub(crate) fn ended_at(&self, time: u64) -> bool
-        ensures { result ≡ has_end time self.now.versions }
-    {
-        any_ended_at(self.versions.as_slice(), time)
-    }
-
-    /// How many versions there are.
-    pub(crate) fn len(&self) -> usize
-        ensures { result ≡ length self.now.versions }
-    {
-        self.versions.len()
     }
 
     /// Hands out the row of the version at place `i`, if it ended at or before `h`: such a version is to be forgotten.
@@ -319,65 +415,6 @@ impl Versions {
         }
         let alloc = *self.versions.allocator();
         lend_done(alloc, self.versions.as_mut_slice(), i, h)
-    }
-
-    fn kept_has(&self, h: u64, places: &[u8], key: &[Value]) -> bool
-        ensures { result ≡ body_has places.now key.now (cut_body h (body self.now)) }
-    {
-        any_kept_has(self.versions.as_slice(), h, places, key) || self.slot_has(places, key)
-    }
-
-    /// The same where of the versions only those count that a cut at `h` keeps, or all.
-    pub(crate) fn keeps_key(&self, h: Option<u64>, places: &[u8], key: &[Value]) -> bool
-        ensures { result ≡ body_has places.now key.now (left_by h (body self.now)) }
-    {
-        match h {
-            Some(h) => self.kept_has(h, places, key),
-            None => self.has_key(places, key),
-        }
-    }
-
-    /// Whether some version or the open write has the key at these places.
-    pub(crate) fn has_key(&self, places: &[u8], key: &[Value]) -> bool
-        ensures { result ≡ body_has places.now key.now (body self.now) }
-    {
-        any_has(self.versions.as_slice(), places, key) || self.slot_has(places, key)
-    }
-
-    fn slot_has(&self, places: &[u8], key: &[Value]) -> bool
-        ensures { result ≡ slot_has places.now key.now self.now.slot }
-    {
-        let Some(slot) = &self.slot else {
-            return false;
-        };
-        match slot.change.get() {
-            Some(row) => row_has(places, key, row.as_slice()),
-            None => false,
-        }
-    }
-
-    /// Whether there is a living version or an open write.
-    pub(crate) fn is_present(&self) -> bool
-        ensures { result ≡ is_present (body self.now) }
-    {
-        self.living_since().is_some() || self.slot.is_some()
-    }
-
-    /// Whether there is a living version that began by `r`, and no open write.
-    pub(crate) fn is_free(&self, r: u64) -> bool
-        ensures { result ≡ is_free r (body self.now) }
-    {
-        match self.living_since() {
-            Some(begin) => begin <= r && self.slot.is_none(),
-            None => false,
-        }
-    }
-
-    // Whether there is neither a version nor an open write.
-    fn is_empty(&self) -> bool
-        ensures { result ≡ is_empty_body (body self.now) }
-    {
-        self.versions.is_empty() && self.slot.is_none()
     }
 
     /// Begins a version at `time`. Without an open write the row needs no room for another.
@@ -393,5 +430,16 @@ impl Versions {
         if self.slot.is_none() {
             self.versions.shrink_to_fit();
         }
+    }
+
+    /// Hands out the only version, where there is no other and no open write.
+    pub(crate) fn take_only(&mut self) -> Option<Version>
+        ensures only { IfSome result (λ version. body self.old ≡ (version ∷ [], None)) }
+        ensures same { IfNone result (body self.new ≡ body self.old) }
+    {
+        if self.slot.is_some() || self.versions.len() != 1 {
+            return None;
+        }
+        self.versions.pop()
     }
 }

@@ -4,8 +4,8 @@ use Rattle.s2_rowstore.proofs.present.list_rows.Goals as goal
 
 pub loop-id-preserved : goal.loop-id-preserved
 loop-id-preserved g c = (
-  λ n e. c.add_id.ensures.kept n (c.loop-id.invariant.0 n e),
-  listed_more c.args.rows.now c.loop-id.id-index _ _ _ (omega arith) c.add_id.ensures.kept c.loop-id.invariant.1 c.loop-id-item.is c.in_ok-add_id.ensures.added,
+  λ n e. c.insert.ensures.kept n (c.loop-id.invariant.0 n e),
+  listed_more c.args.rows.now c.loop-id.id-index _ _ _ (omega arith) c.insert.ensures.kept c.loop-id.invariant.1 c.loop-id-item.is c.in_ok-insert.ensures.added,
 )
 
 pub returns-clause-added : goal.returns-clause-added

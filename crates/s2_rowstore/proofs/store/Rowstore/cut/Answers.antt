@@ -19,7 +19,7 @@ invariant_of-self c =
     let old = c.self.inside.lines.entries in
     let new = c.cut_rows.new.lines.entries in
     let notes = c.cut_rows.new.notes in
-    let P : List (BTreeMap (List Value) (List ℕ)) → Type 0 = λ ns. IsKept schema ns c.self.inside.changed.items c.self.inside.present.keys c.cut_rows.new.ends new in
+    let P : List (BTreeMap (List Value) (List ℕ)) → Type 0 = λ ns. IsKept schema ns c.self.inside.changed.items c.self.inside.present c.cut_rows.new.ends new in
     let K : List (BTreeMap (List Value) (List ℕ)) → Type 0 = λ ns. KeepsHad schema (body_at new) ns notes in
     let had = subst K c.as_mut_slice-notes.ensures.value c.cut_rows.ensures.notes in
     let kept : P notes = record {
@@ -28,6 +28,6 @@ invariant_of-self c =
       posted = posted_had schema c.self.inside.notes.items notes new had (posted_as schema c.self.inside.notes.items old new (λ places q n e. has_kept places q c.args.h _ (sym (ap (body_has places q) (c.cut_rows.ensures.cut n)) ∙ e)) c.self.invariant.posted);
       listed = listed_as c.self.inside.changed.items old new (λ n. ap slot_of (c.cut_rows.ensures.cut n)) c.self.invariant.listed;
       queued = c.cut_rows.ensures.queued;
-      present = still_kept c.self.inside.present.keys old new c.args.h c.cut_rows.ensures.cut c.self.invariant.present;
+      present = still_kept c.self.inside.present old new c.args.h c.cut_rows.ensures.cut c.self.invariant.present;
     } in
     subst P (sym (take_at notes _ _ (search rules))) kept

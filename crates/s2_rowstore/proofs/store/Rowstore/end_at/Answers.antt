@@ -16,5 +16,5 @@ invariant_of-self c =
       posted = posted_as c.self.inside.schema c.self.inside.notes.items c.self.inside.lines.entries c.end_line.new.lines.entries (λ places q n e. sym (has_one_ended (c.args.id == n) places q c.args.time _) ∙ sym (ap (body_has places q) (c.end_line.ensures n)) ∙ e) c.self.invariant.posted;
       listed = listed_as c.self.inside.changed.items c.self.inside.lines.entries c.end_line.new.lines.entries (λ n. ap slot_of (c.end_line.ensures n) ∙ slot_one_ended (c.args.id == n) c.args.time _) c.self.invariant.listed;
       queued = queued_ended c.self.inside.ends c.push.new.self c.self.inside.lines.entries c.end_line.new.lines.entries c.args.id c.args.time c.push.ensures.kept c.push.ensures.added c.end_line.ensures c.self.invariant.queued;
-      present = c.drop_absent.ensures (still_ended c.self.inside.present.keys c.self.inside.lines.entries c.end_line.new.lines.entries c.args.id c.args.time c.end_line.ensures c.self.invariant.present);
+      present = c.drop_absent.ensures (still_ended c.self.inside.present c.self.inside.lines.entries c.end_line.new.lines.entries c.args.id c.args.time c.end_line.ensures c.self.invariant.present);
     }

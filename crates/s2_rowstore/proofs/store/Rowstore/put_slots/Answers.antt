@@ -2,8 +2,9 @@ use Rattle.std.proofs.Common.{◌≡◌, ℕ, List, Option, All, true, sym, subs
 use Rattle.std.specs.BTreeMap.{BTreeMap}
 use Rattle.std.proofs.lemmas.List.{take_at}
 use Rattle.s2_value.specs.declared.values.Value.{Value}
-use Rattle.s2_rowstore.specs.Lines.{names_row, body_at, for_row, with_slot, have_room}
+use Rattle.s2_rowstore.specs.Lines.{body_at, for_row, with_slot, have_room}
 use Rattle.s2_rowstore.specs.Keys.{KeepsNotes}
+use Rattle.s2_rowstore.specs.Numbers.{is_among}
 use Rattle.s2_rowstore.specs.Prepared.{IsReadyChange}
 use Rattle.s2_rowstore.specs.Store.{IsKept, KeepsHad}
 use Rattle.s2_rowstore.proofs.Kept.{actors_stay}
@@ -27,7 +28,7 @@ invariant_of-self-in_err-ready_changes c =
     let mid = c.ready_changes.new.lines.entries in
     let notes = c.ready_changes.new.notes in
     let ids = c.ready_changes.new.ids in
-    let present = c.list_rows.new.ids.keys in
+    let present = c.list_rows.new.ids in
     let P : List (BTreeMap (List Value) (List ℕ)) → Type 0 = λ ns. IsKept schema ns (slice_set c.self.inside.changed.items c.args.actor ids) present c.list_rows.new.ends mid in
     let K : List (BTreeMap (List Value) (List ℕ)) → Type 0 = λ ns. KeepsNotes ns notes in
     let more = subst K c.as_mut_slice-notes.ensures.value c.ready_changes.ensures.notes in
@@ -37,7 +38,7 @@ invariant_of-self-in_err-ready_changes c =
       posted = posted_more schema c.self.inside.notes.items notes old mid c.ready_changes.ensures.same more c.self.invariant.posted;
       listed = listed_more c.self.inside.changed.items c.args.actor c.index_mut-ids.result.now ids old mid c.requires.actor c.self.invariant.actors c.index_mut-ids.ensures.value c.ready_changes.ensures.ids c.ready_changes.ensures.same c.self.invariant.listed;
       queued = queued_same c.self.inside.ends c.list_rows.new.ends old mid c.list_rows.ensures.ends c.ready_changes.ensures.same c.self.invariant.queued;
-      present = still_same c.self.inside.present.keys present old mid c.list_rows.ensures.kept c.ready_changes.ensures.same c.self.invariant.present;
+      present = still_same c.self.inside.present present old mid c.list_rows.ensures.kept c.ready_changes.ensures.same c.self.invariant.present;
     } in
     subst P (sym (take_at notes _ _ (search rules))) kept
 
@@ -48,7 +49,7 @@ invariant_of-self-in_err-changes c =
     let mid = c.ready_changes.new.lines.entries in
     let notes = c.ready_changes.new.notes in
     let ids = c.ready_changes.new.ids in
-    let present = c.list_rows.new.ids.keys in
+    let present = c.list_rows.new.ids in
     let P : List (BTreeMap (List Value) (List ℕ)) → Type 0 = λ ns. IsKept schema ns (slice_set c.self.inside.changed.items c.args.actor ids) present c.list_rows.new.ends mid in
     let K : List (BTreeMap (List Value) (List ℕ)) → Type 0 = λ ns. KeepsNotes ns notes in
     let more = subst K c.as_mut_slice-notes.ensures.value c.ready_changes.ensures.notes in
@@ -58,7 +59,7 @@ invariant_of-self-in_err-changes c =
       posted = posted_more schema c.self.inside.notes.items notes old mid c.ready_changes.ensures.same more c.self.invariant.posted;
       listed = listed_more c.self.inside.changed.items c.args.actor c.index_mut-ids.result.now ids old mid c.requires.actor c.self.invariant.actors c.index_mut-ids.ensures.value c.ready_changes.ensures.ids c.ready_changes.ensures.same c.self.invariant.listed;
       queued = queued_same c.self.inside.ends c.list_rows.new.ends old mid c.list_rows.ensures.ends c.ready_changes.ensures.same c.self.invariant.queued;
-      present = still_same c.self.inside.present.keys present old mid c.list_rows.ensures.kept c.ready_changes.ensures.same c.self.invariant.present;
+      present = still_same c.self.inside.present present old mid c.list_rows.ensures.kept c.ready_changes.ensures.same c.self.invariant.present;
     } in
     subst P (sym (take_at notes _ _ (search rules))) kept
 
@@ -71,13 +72,13 @@ invariant_of-self-2 c =
     let notes = c.ready_changes.new.notes in
     let after = c.put_all.new.notes in
     let ids = c.ready_changes.new.ids in
-    let present = c.list_rows.new.ids.keys in
+    let present = c.list_rows.new.ids in
     let was = c.index_mut-ids.result.now in
     let P : List (BTreeMap (List Value) (List ℕ)) → Type 0 = λ ns. IsKept schema ns (slice_set c.self.inside.changed.items c.args.actor ids) present c.list_rows.new.ends new in
     let K : List (BTreeMap (List Value) (List ℕ)) → Type 0 = λ ns. KeepsNotes ns notes in
     let Q : List (ℕ × Option (List Value)) → Type 0 = λ changes. All (IsReadyChange schema notes mid ids.keys) changes in
     let ready = subst Q c.as_slice-2.ensures.value c.in_ok-ready_changes.ensures.ready in
-    let N : List (ℕ × Option (List Value)) → Type 0 = λ changes. All (λ p. names_row present p.0 ≡ true) changes in
+    let N : List (ℕ × Option (List Value)) → Type 0 = λ changes. All (λ p. is_among present p.0 ≡ true) changes in
     let named = subst N c.as_slice.ensures.value c.in_ok-list_rows.ensures.added in
     let more = subst K c.as_mut_slice-notes.ensures.value c.ready_changes.ensures.notes in
     let A : List (ℕ × Option (List Value)) → Type 0 = λ changes. (n : ℕ) → body_at new n ≡ with_slot c.args.actor (for_row changes n) (body_at mid n) in
@@ -91,6 +92,6 @@ invariant_of-self-2 c =
       listed = listed_put c.self.inside.changed.items c.args.actor was ids schema notes mid new c.args.changes.items c.requires.actor c.self.invariant.actors c.index_mut-ids.ensures.value c.ready_changes.ensures.ids put ready
           (listed_same c.self.inside.changed.items old mid c.ready_changes.ensures.same c.self.invariant.listed);
       queued = queued_put c.list_rows.new.ends mid new c.args.actor c.args.changes.items put (queued_same c.self.inside.ends c.list_rows.new.ends old mid c.list_rows.ensures.ends c.ready_changes.ensures.same c.self.invariant.queued);
-      present = still_put present mid new c.args.actor c.args.changes.items put named (still_same c.self.inside.present.keys present old mid c.list_rows.ensures.kept c.ready_changes.ensures.same c.self.invariant.present);
+      present = still_put present mid new c.args.actor c.args.changes.items put named (still_same c.self.inside.present present old mid c.list_rows.ensures.kept c.ready_changes.ensures.same c.self.invariant.present);
     } in
     subst P (sym (take_at after _ _ (search rules))) kept

@@ -10,6 +10,6 @@ unfolding can_take
 returns c =
     let s = c.self.inside in
     IfOk-weaker c.first_free.result _ _
-    (λ found e. first_of_present s.lines.entries s.present.keys c.args.from c.args.r c.args.most found.items (can_take c.args.self.now c.args.from c.args.r)
+    (λ found e. first_of_present s.lines.entries s.present c.args.from c.args.r c.args.most found.items (can_take c.args.self.now c.args.from c.args.r)
     (λ n. let F : Store → Bool = λ S. can_take S c.args.from c.args.r n in ap F c.self.view_is) c.self.invariant.present (rising_from _ c.first_free.ensures.ordered) e)
     c.first_free.ensures.rows

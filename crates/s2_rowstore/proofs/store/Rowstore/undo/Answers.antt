@@ -24,7 +24,7 @@ invariant_of-self c =
     let old = c.self.inside.lines.entries in
     let new = c.undo_all.new.lines.entries in
     let notes = c.undo_all.new.notes in
-    let P : List (BTreeMap (List Value) (List ℕ)) → Type 0 = λ ns. IsKept schema ns (slice_set c.self.inside.changed.items c.args.actor c.clear.new.self) c.drop_all_absent.new.ids.keys c.self.inside.ends new in
+    let P : List (BTreeMap (List Value) (List ℕ)) → Type 0 = λ ns. IsKept schema ns (slice_set c.self.inside.changed.items c.args.actor c.clear.new.self) c.drop_all_absent.new.ids c.self.inside.ends new in
     let K : List (BTreeMap (List Value) (List ℕ)) → Type 0 = λ ns. KeepsHad schema (body_at new) ns notes in
     let had = subst K c.as_mut_slice-notes.ensures.value c.undo_all.ensures.notes in
     let kept : P notes = record {
@@ -33,6 +33,6 @@ invariant_of-self c =
       posted = posted_had schema c.self.inside.notes.items notes new had (posted_as schema c.self.inside.notes.items old new (λ places q n e. has_undone places q c.args.actor _ (sym (ap (body_has places q) (c.undo_all.ensures.after n)) ∙ e)) c.self.invariant.posted);
       listed = still_listed c.self.inside.changed.items c.args.actor c.clear.new.self old new (λ n. ap slot_of (c.undo_all.ensures.after n)) c.self.invariant.listed;
       queued = queued_undone c.self.inside.ends old new c.args.actor c.undo_all.ensures.after c.self.invariant.queued;
-      present = c.drop_all_absent.ensures (still_undone c.self.inside.present.keys old new c.args.actor c.undo_all.ensures.after c.self.invariant.present);
+      present = c.drop_all_absent.ensures (still_undone c.self.inside.present old new c.args.actor c.undo_all.ensures.after c.self.invariant.present);
     } in
     subst P (sym (take_at notes _ _ (search rules))) kept
