@@ -5,7 +5,6 @@ mod conditions;
 mod entries;
 mod files;
 mod laws;
-mod logs;
 mod outcomes;
 mod predicates;
 mod replies;
@@ -25,7 +24,6 @@ pub use laws::{
     replies_stay, reply_stays, resting_rows_are_rows, row_numbers_are_right, segments_are_files,
     sessions_join, transcripts_stay,
 };
-pub use logs::Log;
 pub use outcomes::{
     MarkList, Outcome, PinList, PlacementNote, Ruling, Said, SaidList, SegNote, SegNoteList,
     Transcript, TranscriptList,

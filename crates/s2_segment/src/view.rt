@@ -44,7 +44,7 @@ impl<'a> Model for View<'a> {
     ghost invariant = { λ v. IsView v.count v.ids.now v.columns.items };
 }
 
-/// The parts of a file, not yet checked together. Of a file that was judged before nothing but the head is checked again.
+/// The parts of a file, not yet checked together. Of a file that was judged before the head, the lengths and the tags of the columns are checked again, and no value, row number or offset.
 #[tactic(auto, unfolding(crate::specs::Parts::parts_at))]
 pub(crate) fn read_parts<'a>(
     alloc: Global,
